@@ -1,5 +1,5 @@
 -- When the frames of a name are a whole datagram.
-use Rattle.std.proofs.Common.{◌≡◌, ◌≤◌, ℕ, Bool, false, nat_eq, List, find, Option, None, Some, option_map, cond, refl, ap, ◌∙◌}
+use Rattle.std.proofs.Common.{◌≡◌, ◌≤◌, ℕ, false, nat_eq, List, find, Option, None, Some, option_map, cond, refl, ap, ◌∙◌}
 use Rattle.std.proofs.Common.{sym, subst}
 use Rattle.std.specs.List.{AllByRecursion}
 use Rattle.std.proofs.lemmas.Option.{same_Some, none-some}
@@ -21,17 +21,12 @@ by_last : (frames : List Frame) (newest last : Frame) → AreHeld frames → fin
 unfolding completed
 by_last frames newest last held is =
     ap (λ (o : Option Frame). completed_at o frames newest) is
-    ∙ ap (λ (b : Bool). cond b
-    (option_map (λ (first : Frame). datagram_from first (to_of last) frames newest) (find is_first frames)) None)
-    (covers_all_is frames (to_of last) held (last_within frames last held is))
+    ∙ simp (covers_all_is frames (to_of last) held (last_within frames last held is))
 
 -- some byte is missing
 pub not_completed : (frames : List Frame) (newest last : Frame) → AreHeld frames → find is_last frames ≡ Some last
     → nat_eq (filled frames) (to_of last) ≡ false → completed frames newest ≡ None
-not_completed frames newest last held is fewer =
-    by_last frames newest last held is
-    ∙ ap (λ (b : Bool). cond b
-    (option_map (λ (first : Frame). datagram_from first (to_of last) frames newest) (find is_first frames)) None) fewer
+not_completed frames newest last held is fewer = by_last frames newest last held is ∙ simp fewer
 
 -- the last frame, if an end is kept
 last_of : (o : Option Frame) (end : ℕ) → option_map to_of o ≡ Some end → (last : Frame) × (o ≡ Some last) × (to_of last ≡ end)

@@ -13,6 +13,7 @@ use Rattle.ip_defrag.specs.Fragments.{takes_part, from_of, to_of, is_last}
 use Rattle.ip_defrag.specs.Datagrams.{places, covers, is_covered, covers_all, shares}
 use Rattle.ip_defrag.specs.Fold.{conflicts, contradicts}
 use Rattle.ip_defrag.specs.Held.{AreHeld, filled}
+use Rattle.ip_defrag.proofs.Cases.{by_cases}
 use Rattle.ip_defrag.proofs.Places.{shares_is}
 use Rattle.ip_defrag.proofs.Taken.{read_of}
 
@@ -79,13 +80,9 @@ count_or p q one (x ∷ xs) =
     let a = count_by-cons (λ y. p y || q y) x xs in
     let b = count_by-cons p x xs in
     let c = count_by-cons q x xs in
-    let d = by_test (p x) (q x) (one x) in
+    let d : cond (p x || q x) 1 0 ≡ cond (p x) 1 0 + cond (q x) 1 0 =
+    by_cases (p x) (λ e. let other = one x e in simp (e, other)) (λ e. simp e (omega arith)) in
     omega arith
-  where
-    by_test : (a b : Bool) → (a ≡ true → b ≡ false) → cond (a || b) 1 0 ≡ cond a 1 0 + cond b 1 0
-    by_test true true one = absurd (cc (one refl))
-    by_test true false one = refl
-    by_test false b one = omega arith
 
 none_covered : (xs : List ℕ) → count_by (is_covered []) xs ≡ 0
 none_covered [] = refl
@@ -159,22 +156,17 @@ length-filled (frame ∷ frames) held =
 -- what is found passes
 pub found_passes : {X : Type 0} (p : X → Bool) (xs : List X) (x : X) → find p xs ≡ Some x → p x ≡ true
 found_passes p [] x e = absurd (none-some x e)
-found_passes {X} p (y ∷ xs) x e = by_test (found_passes p xs x) (p y) refl e
-  where
-    by_test : (find p xs ≡ Some x → p x ≡ true) → (b : Bool) → p y ≡ b → cond b (Some y) (find p xs) ≡ Some x → p x ≡ true
-    by_test rest true is e = subst (λ (z : X). p z ≡ true) (same_Some _ _ e) is
-    by_test rest false is e = rest e
+found_passes {X} p (y ∷ xs) x e =
+    by_cases (p y) (λ is. subst (λ (z : X). p z ≡ true) (same_Some _ _ (simp is at e)) is)
+    (λ is. found_passes p xs x (simp is at e))
 
 -- and doesn't pass what none passes
 found_none : {X : Type 0} (p q : X → Bool) (xs : List X) (x : X) → find p xs ≡ Some x → list_any q xs ≡ false → q x ≡ false
 found_none p q [] x e none = absurd (none-some x e)
 found_none {X} p q (y ∷ xs) x e none =
     let parts = or_parts (q y) (list_any q xs) none in
-    by_test parts.0 (λ rest. found_none p q xs x rest parts.1) (p y) e
-  where
-    by_test : q y ≡ false → (find p xs ≡ Some x → q x ≡ false) → (b : Bool) → cond b (Some y) (find p xs) ≡ Some x → q x ≡ false
-    by_test here rest true e = subst (λ (z : X). q z ≡ false) (same_Some _ _ e) here
-    by_test here rest false e = rest e
+    by_cases (p y) (λ is. subst (λ (z : X). q z ≡ false) (same_Some _ _ (simp is at e)) parts.0)
+    (λ is. found_none p q xs x (simp is at e) parts.1)
 
 -- a frame that doesn't conflict with a last one doesn't reach past it, on either side
 past_no_end : (frame last : Frame) → conflicts frame last ≡ false → is_last last ≡ true → to_of frame ≤ to_of last
@@ -196,15 +188,13 @@ all_past last (frame ∷ frames) none is =
 pub last_within : (frames : List Frame) (last : Frame) → AreHeld frames → find is_last frames ≡ Some last
     → AllByRecursion (λ frame. to_of frame ≤ to_of last) frames
 last_within [] last held e = absurd (none-some last e)
-last_within (frame ∷ frames) last held e = by_test (last_within frames last held.2) (is_last frame) refl e
-  where
-    by_test : (find is_last frames ≡ Some last → AllByRecursion (λ other. to_of other ≤ to_of last) frames) → (b : Bool)
-        → is_last frame ≡ b → cond b (Some frame) (find is_last frames) ≡ Some last
-        → AllByRecursion (λ other. to_of other ≤ to_of last) (frame ∷ frames)
-    by_test rest true is e =
-        let same : frame ≡ last = same_Some _ _ e in
-        subst (λ (l : Frame). AllByRecursion (λ other. to_of other ≤ to_of l) (frame ∷ frames)) same
-        (omega arith, all_past frame frames held.1 is)
-    by_test rest false is e =
-        let clear : conflicts last frame ≡ false = found_none is_last (λ later. conflicts later frame) frames last e held.1 in
-        (before_no_end last frame clear (found_passes is_last frames last e), rest e)
+last_within (frame ∷ frames) last held e =
+    by_cases (is_last frame)
+    (λ is.
+    let same : frame ≡ last = same_Some _ _ (simp is at e) in
+    subst (λ (l : Frame). AllByRecursion (λ other. to_of other ≤ to_of l) (frame ∷ frames)) same
+    (omega arith, all_past frame frames held.1 is))
+    (λ is.
+    let found = simp is at e in
+    let clear : conflicts last frame ≡ false = found_none is_last (λ later. conflicts later frame) frames last found held.1 in
+    (before_no_end last frame clear (found_passes is_last frames last found), last_within frames last held.2 found))

@@ -1,17 +1,18 @@
 -- Data written to its places, one fragment after another.
-use Rattle.std.proofs.Common.{◌≡◌, ℕ, zero, suc, ◌+◌, ◌-◌, ◌<◌, ◌≤◌, Bool, true, false, ◌||◌, List, [], ◌∷◌, ◌++◌, length, map}
+use Rattle.std.proofs.Common.{◌≡◌, ℕ, zero, suc, ◌+◌, ◌-◌, ◌<◌, ◌≤◌, Bool, true, false, List, [], ◌∷◌, ◌++◌, length, map}
 use Rattle.std.proofs.Common.{take, drop, replicate, get_or, slice_index, cond, arith, refl, ap, ◌∙◌, sym, subst, length-append}
 use Rattle.std.proofs.Common.{length-take, length-drop, inl, inr}
 use Rattle.std.specs.List.{list_any}
 use Rattle.std.proofs.lemmas.List.{take_more, get_or_append_left, get_or-append_right, get_or-take, get_or-drop}
-use Rattle.std.proofs.lemmas.List.Folds.{list_any_at}
+use Rattle.std.proofs.lemmas.List.Folds.{list_any-append, list_any_at}
 use Rattle.std.proofs.lemmas.Grind.{same_number_lists}
-use Rattle.std.proofs.lemmas.Bool.{or_parts, or_from, both_ways, cases_lt}
+use Rattle.std.proofs.lemmas.Bool.{or_parts, or_from, or_left, or_right, both_ways, cases_lt}
 use Rattle.std.proofs.lemmas.Bool.Decides.{nat_tests}
 use Rattle.frame_view.specs.declared.frames.Frame.{Frame}
 use Rattle.ip_defrag.specs.Fragments.{takes_part, from_of, to_of, data_of}
 use Rattle.ip_defrag.specs.Datagrams.{places, covers, is_covered, own_byte, byte_at}
 use Rattle.ip_defrag.specs.Held.{AreHeld, written}
+use Rattle.ip_defrag.proofs.Cases.{by_cases}
 use Rattle.ip_defrag.proofs.Covers.{first_alone, has_data}
 use Rattle.ip_defrag.proofs.Taken.{read_of}
 
@@ -40,21 +41,11 @@ pub last_alone : (frames : List Frame) (new : Frame) (place : ℕ) → AreHeld (
     → is_covered frames place ≡ false
 last_alone [] new place held here = refl
 last_alone (frame ∷ frames) new place held here =
-    or_from _ _ (not_first (covers frame place) refl) (last_alone frames new place held.2 here)
-  where
-    last_covered : (frames : List Frame) → is_covered (frames ++ new ∷ []) place ≡ true
-    last_covered [] = ap (λ (b : Bool). b || false) here
-    last_covered (other ∷ frames) = by_test (covers other place) (last_covered frames)
-      where
-        by_test : (b : Bool) → is_covered (frames ++ new ∷ []) place ≡ true
-            → (b || is_covered (frames ++ new ∷ []) place) ≡ true
-        by_test true e = refl
-        by_test false e = e
-
-    not_first : (b : Bool) → covers frame place ≡ b → covers frame place ≡ false
-    not_first false e = e
-    not_first true e =
-        absurd (both_ways _ (first_alone frame (frames ++ new ∷ []) place held.0 held.1 held.2 e) (last_covered frames))
+    let all : is_covered (frames ++ new ∷ []) place ≡ true =
+    list_any-append (λ (f : Frame). covers f place) frames (new ∷ []) ∙ or_right _ _ (or_left _ _ here) in
+    let mine : covers frame place ≡ false = by_cases (covers frame place)
+    (λ e. absurd (both_ways _ (first_alone frame (frames ++ new ∷ []) place held.0 held.1 held.2 e) all)) (λ e. e) in
+    or_from _ _ mine (last_alone frames new place held.2 here)
 
 byte_at_other : (frames : List Frame) (new : Frame) (place : ℕ) → covers new place ≡ false
     → byte_at (frames ++ new ∷ []) place ≡ byte_at frames place
@@ -67,8 +58,7 @@ byte_at_new : (frames : List Frame) (new : Frame) (place : ℕ) → is_covered f
 byte_at_new [] new place none here = ap (λ (b : Bool). cond b (slice_index (data_of new) (place - from_of new)) 0) here
 byte_at_new (frame ∷ frames) new place none here =
     let parts = or_parts (covers frame place) (is_covered frames place) none in
-    ap (λ (b : Bool). cond b (slice_index (data_of frame) (place - from_of frame)) (byte_at (frames ++ new ∷ []) place)) parts.0
-    ∙ byte_at_new frames new place parts.1 here
+    simp parts.0 (byte_at_new frames new place parts.1 here)
 
 -- at the start zeros
 pub no_bytes : (from count : ℕ) → map (byte_at []) (places from count) ≡ replicate count 0
@@ -189,14 +179,8 @@ pub byte_of : (frames : List Frame) (at place : ℕ) (d : Frame) → AreHeld fra
 byte_of [] at place d held h here = absurd (omega arith)
 byte_of (frame ∷ frames) zero place d held h here = ap (λ (b : Bool). cond b (own_byte frame place) (byte_at frames place)) here
 byte_of (frame ∷ frames) (suc at) place d held h here =
-    by_test (byte_of frames at place d held.2 below here) (covers frame place) refl
-  where
-    below : at < length frames
-    below = omega arith
-
-    by_test : byte_at frames place ≡ own_byte (get_or frames at d) place → (b : Bool) → covers frame place ≡ b
-        → cond (covers frame place) (own_byte frame place) (byte_at frames place) ≡ own_byte (get_or frames at d) place
-    by_test rest true e =
-        absurd (both_ways _ (first_alone frame frames place held.0 held.1 held.2 e)
-        (list_any_at (λ f. covers f place) frames at d below here))
-    by_test rest false e = ap (λ (b : Bool). cond b (own_byte frame place) (byte_at frames place)) e ∙ rest
+    let below : at < length frames = omega arith in
+    by_cases (covers frame place)
+    (λ e. absurd (both_ways _ (first_alone frame frames place held.0 held.1 held.2 e)
+    (list_any_at (λ f. covers f place) frames at d below here)))
+    (λ e. simp e (byte_of frames at place d held.2 below here))

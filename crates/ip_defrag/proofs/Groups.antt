@@ -1,5 +1,5 @@
 -- The flat list and its groups: taking frames away, or adding one, does the same to both.
-use Rattle.std.proofs.Common.{◌≡◌, ℕ, Bool, true, false, not, List, [], ◌∷◌, map, filter, cond, arith, refl, ap, ◌∙◌, sym}
+use Rattle.std.proofs.Common.{◌≡◌, ℕ, Bool, true, false, not, List, [], ◌∷◌, map, filter, arith, refl, ap, ◌∙◌, sym}
 use Rattle.std.proofs.lemmas.Bool.{both_ways}
 use Rattle.std.proofs.lemmas.Bool.Decides.{nat_tests}
 use Rattle.frame_view.specs.declared.frames.Frame.{Frame}
@@ -7,6 +7,7 @@ use Rattle.ip_defrag.specs.Fragments.{name_of}
 use Rattle.ip_defrag.specs.Fold.{same_name, is_named, of_name, names_of, opened_at}
 use Rattle.ip_defrag.specs.Grouped.{Group, group_of, groups}
 use Rattle.ip_defrag.specs.declared.names.Name.{Name}
+use Rattle.ip_defrag.proofs.Cases.{by_cases}
 
 pub same_name_refl : (name : Name) → same_name name name ≡ true
 unfolding same_name
@@ -34,27 +35,19 @@ by_name keep frame = keep (name_of frame)
 
 pub filter_twice : {X : Type 0} (p q : X → Bool) (xs : List X) → filter p (filter q xs) ≡ filter q (filter p xs)
 filter_twice p q [] = refl
-filter_twice {X} p q (x ∷ xs) = by_test (p x) refl (q x) refl (filter_twice p q xs)
-  where
-    by_test : (a : Bool) → p x ≡ a → (b : Bool) → q x ≡ b → filter p (filter q xs) ≡ filter q (filter p xs)
-        → filter p (cond (q x) (x ∷ filter q xs) (filter q xs)) ≡ filter q (cond (p x) (x ∷ filter p xs) (filter p xs))
-    by_test true pa true qb rest = simp (pa, qb) (ap (λ (ys : List X). x ∷ ys) rest)
-    by_test true pa false qb rest = simp (pa, qb) rest
-    by_test false pa true qb rest = simp (pa, qb) rest
-    by_test false pa false qb rest = simp (pa, qb) rest
+filter_twice p q (x ∷ xs) =
+    let rest = filter_twice p q xs in
+    by_cases (p x) (λ a. by_cases (q x) (λ b. simp (a, b, rest)) (λ b. simp (a, b) rest))
+    (λ a. by_cases (q x) (λ b. simp (a, b) rest) (λ b. simp (a, b) rest))
 
 -- the stricter of two tests
 pub filter_within : {X : Type 0} (p q : X → Bool) → ((x : X) → p x ≡ true → q x ≡ true) → (xs : List X)
     → filter p (filter q xs) ≡ filter p xs
 filter_within p q less [] = refl
-filter_within {X} p q less (x ∷ xs) = by_test (p x) refl (q x) refl (filter_within p q less xs)
-  where
-    by_test : (a : Bool) → p x ≡ a → (b : Bool) → q x ≡ b → filter p (filter q xs) ≡ filter p xs
-        → filter p (cond (q x) (x ∷ filter q xs) (filter q xs)) ≡ cond (p x) (x ∷ filter p xs) (filter p xs)
-    by_test true pa true qb rest = simp (pa, qb) (ap (λ (ys : List X). x ∷ ys) rest)
-    by_test true pa false qb rest = absurd (both_ways _ qb (less x pa))
-    by_test false pa true qb rest = simp (pa, qb) rest
-    by_test false pa false qb rest = simp (pa, qb) rest
+filter_within p q less (x ∷ xs) =
+    let rest = filter_within p q less xs in
+    by_cases (p x) (λ a. let b = less x a in simp (a, b, rest))
+    (λ a. by_cases (q x) (λ b. simp (a, b) rest) (λ b. simp (a, b) rest))
 
 -- whether a name is another one
 abbrev pub differs : Name → Name → Bool
@@ -62,30 +55,21 @@ differs other name = not (same_name name other)
 
 -- if a name is lost, one that is kept differs from it
 kept_differs : (keep : Name → Bool) (other name : Name) → keep other ≡ false → keep name ≡ true → differs other name ≡ true
-kept_differs keep other name lost is = by_same (same_name name other) refl
-  where
-    by_same : (b : Bool) → same_name name other ≡ b → not (same_name name other) ≡ true
-    by_same true e = absurd (both_ways _ lost (ap keep (sym (same_name_is name other e)) ∙ is))
-    by_same false e = ap not e
+kept_differs keep other name lost is =
+    by_cases (same_name name other) (λ e. absurd (both_ways _ lost (ap keep (sym (same_name_is name other e)) ∙ is)))
+    (λ e. ap not e)
 
 -- names are kept or lost as their frames are
 pub names_filter : (keep : Name → Bool) (held : List Frame)
     → names_of (filter (by_name keep) held) ≡ filter keep (names_of held)
 names_filter keep [] = refl
-names_filter keep (frame ∷ held) = by_test (names_filter keep held) (keep (name_of frame)) refl
-  where
-    by_test : names_of (filter (by_name keep) held) ≡ filter keep (names_of held) → (b : Bool) → keep (name_of frame) ≡ b
-        → names_of (cond (keep (name_of frame)) (frame ∷ filter (by_name keep) held) (filter (by_name keep) held))
-        ≡ cond (keep (name_of frame)) (name_of frame ∷ filter keep (filter (differs (name_of frame)) (names_of held)))
-        (filter keep (filter (differs (name_of frame)) (names_of held)))
-    by_test rest true e =
-        simp e (ap (λ (ns : List Name). name_of frame ∷ ns)
-        (ap (filter (differs (name_of frame))) rest ∙ filter_twice (differs (name_of frame)) keep (names_of held)))
-    by_test rest false e =
-        simp e
-        (rest
-        ∙ sym (filter_within keep (differs (name_of frame)) (λ name is. kept_differs keep (name_of frame) name e is)
-        (names_of held)))
+names_filter keep (frame ∷ held) =
+    let rest = names_filter keep held in
+    by_cases (keep (name_of frame))
+    (λ e. simp e (ap (λ (ns : List Name). name_of frame ∷ ns)
+    (ap (filter (differs (name_of frame))) rest ∙ filter_twice (differs (name_of frame)) keep (names_of held))))
+    (λ e. simp e (rest ∙ sym (filter_within keep (differs (name_of frame))
+    (λ name is. kept_differs keep (name_of frame) name e is) (names_of held))))
 
 -- a name that is kept has the same frames and the same time
 pub of_name_filter : (keep : Name → Bool) (name : Name) (held : List Frame) → keep name ≡ true
@@ -97,16 +81,10 @@ pub opened_filter : (keep : Name → Bool) (name : Name) (held : List Frame) →
     → opened_at name (filter (by_name keep) held) ≡ opened_at name held
 opened_filter keep name [] is = refl
 opened_filter keep name (frame ∷ held) is =
-    by_test (opened_filter keep name held is) (same_name (name_of frame) name) refl (keep (name_of frame)) refl
-  where
-    by_test : opened_at name (filter (by_name keep) held) ≡ opened_at name held → (a : Bool)
-        → same_name (name_of frame) name ≡ a → (b : Bool) → keep (name_of frame) ≡ b
-        → opened_at name (cond (keep (name_of frame)) (frame ∷ filter (by_name keep) held) (filter (by_name keep) held))
-        ≡ cond (same_name (name_of frame) name) frame.sec (opened_at name held)
-    by_test rest true e true h = simp (e, h)
-    by_test rest true e false h = absurd (both_ways _ h (ap keep (same_name_is (name_of frame) name e) ∙ is))
-    by_test rest false e true h = simp (e, h) rest
-    by_test rest false e false h = simp (e, h) rest
+    let rest = opened_filter keep name held is in
+    by_cases (same_name (name_of frame) name)
+    (λ e. let h : keep (name_of frame) ≡ true = ap keep (same_name_is (name_of frame) name e) ∙ is in simp (e, h))
+    (λ e. by_cases (keep (name_of frame)) (λ h. simp (e, h) rest) (λ h. simp (e, h) rest))
 
 -- groups are kept or lost as their frames are
 abbrev pub by_group : (Name → Bool) → Group → Bool
@@ -115,18 +93,12 @@ by_group keep group = keep group.name
 kept_groups : (keep : Name → Bool) (held : List Frame) (names : List Name)
     → map (group_of (filter (by_name keep) held)) (filter keep names) ≡ filter (by_group keep) (map (group_of held) names)
 kept_groups keep held [] = refl
-kept_groups keep held (name ∷ names) = by_test (kept_groups keep held names) (keep name) refl
+kept_groups keep held (name ∷ names) =
+    let rest = kept_groups keep held names in
+    by_cases (keep name) (λ e. simp e (cc (same e, rest))) (λ e. simp e rest)
   where
     same : keep name ≡ true → group_of (filter (by_name keep) held) name ≡ group_of held name
     same e = let a = of_name_filter keep name held e in let b = opened_filter keep name held e in cc
-
-    by_test : map (group_of (filter (by_name keep) held)) (filter keep names)
-        ≡ filter (by_group keep) (map (group_of held) names) → (b : Bool) → keep name ≡ b
-        → map (group_of (filter (by_name keep) held)) (cond (keep name) (name ∷ filter keep names) (filter keep names))
-        ≡ cond (keep name) (group_of held name ∷ filter (by_group keep) (map (group_of held) names))
-        (filter (by_group keep) (map (group_of held) names))
-    by_test rest true e = simp e (cc (same e, rest))
-    by_test rest false e = simp e rest
 
 pub groups_filter : (keep : Name → Bool) (held : List Frame)
     → groups (filter (by_name keep) held) ≡ filter (by_group keep) (groups held)

@@ -17,6 +17,7 @@ use Rattle.ip_defrag.specs.declared.extents.Extent.{Extent}
 use Rattle.ip_defrag.specs.declared.rules.Judgement.{Judgement}
 use Rattle.ip_defrag.specs.declared.rules.Judgement.TheVariants.{Copy, Conflict, Fits}
 use Rattle.ip_defrag.specs.Marks.{AreMarks, own_marks}
+use Rattle.ip_defrag.proofs.Cases.{by_cases}
 use Rattle.ip_defrag.proofs.Covers.{all_past, before_no_end, has_data}
 use Rattle.ip_defrag.proofs.Places.{shares_is}
 use Rattle.ip_defrag.proofs.Marked.{none_met, one_met, unit_of_from}
@@ -48,11 +49,9 @@ no_copy : (new held : Frame) (frames : List Frame) → list_any (λ later. confl
 no_copy new held [] none is = refl
 no_copy new held (frame ∷ frames) none is =
     let parts = or_parts (conflicts frame held) (list_any (λ later. conflicts later held) frames) none in
-    or_from _ _ (by_test (is_copy new frame) refl parts.0) (no_copy new held frames parts.1 is)
-  where
-    by_test : (b : Bool) → is_copy new frame ≡ b → conflicts frame held ≡ false → is_copy new frame ≡ false
-    by_test false e apart = e
-    by_test true e apart = absurd (both_ways _ apart (sym (alike_conflicts new frame held (alike new frame e)) ∙ is))
+    let here : is_copy new frame ≡ false = by_cases (is_copy new frame)
+    (λ e. absurd (both_ways _ parts.0 (sym (alike_conflicts new frame held (alike new frame e)) ∙ is))) (λ e. e) in
+    or_from _ _ here (no_copy new held frames parts.1 is)
 
 -- how a frame relates, by the first that it conflicts with
 abbrev pub by_first : Frame → Option Frame → Judgement
@@ -62,15 +61,12 @@ by_first new (Some held) = if is_copy new held then Copy else Conflict
 pub judged : (new : Frame) (frames : List Frame) → AreHeld frames
     → judgement new frames ≡ by_first new (find (conflicts new) frames)
 judged new [] held = refl
-judged new (frame ∷ frames) held = by_test (conflicts new frame) refl (is_copy new frame) refl (judged new frames held.2)
-  where
-    by_test : (a : Bool) → conflicts new frame ≡ a → (b : Bool) → is_copy new frame ≡ b
-        → judgement new frames ≡ by_first new (find (conflicts new) frames)
-        → judgement new (frame ∷ frames) ≡ by_first new (cond (conflicts new frame) (Some frame) (find (conflicts new) frames))
-    by_test true is true copies rest = simp (is, copies) refl
-    by_test true is false copies rest = let none = no_copy new frame frames held.1 is in simp (is, copies, none) refl
-    by_test false is true copies rest = absurd (both_ways _ is (copy_conflicts new frame held.0 copies))
-    by_test false is false copies rest = simp (is, copies) rest
+judged new (frame ∷ frames) held =
+    by_cases (conflicts new frame)
+    (λ is. let none = no_copy new frame frames held.1 is in
+    by_cases (is_copy new frame) (λ copies. simp (is, copies)) (λ copies. simp (is, copies, none)))
+    (λ is. by_cases (is_copy new frame) (λ copies. absurd (both_ways _ is (copy_conflicts new frame held.0 copies)))
+    (λ copies. simp (is, copies) (judged new frames held.2)))
 
 -- a frame after another one
 after_one : (new frame : Frame) → takes_part frame ≡ true → from_of new < to_of new → to_of frame ≤ from_of new
@@ -87,12 +83,7 @@ after_each new [] held some after = (refl, refl)
 after_each new (frame ∷ frames) held some after =
     let one = after_one new frame held.0 some (omega (arith, after)) in
     let rest = after_each new frames held.2 some (omega (arith, after)) in
-    (or_from _ _ one.0 rest.0, ap (λ (b : Bool). b || list_any (conflicts new) frames) one.1 ∙ by_test (is_last frame) rest.1)
-  where
-    by_test : (b : Bool) → list_any (conflicts new) frames ≡ is_some (find is_last frames)
-        → (b || list_any (conflicts new) frames) ≡ is_some (cond b (Some frame) (find is_last frames))
-    by_test true rest = refl
-    by_test false rest = rest
+    (or_from _ _ one.0 rest.0, by_cases (is_last frame) (λ e. simp (one.1, e)) (λ e. simp (one.1, e) rest.1))
 
 -- a frame after all
 pub after_all : (new : Frame) (frames : List Frame) (extent : Extent) → AreKept frames extent → from_of new < to_of new
@@ -133,12 +124,9 @@ IsEarly new frame = is_last frame ≡ true → from_of new < to_of frame
 apart_one : (new frame : Frame) → takes_part frame ≡ true → from_of new < to_of new
     → (to_of frame ≤ from_of new) ⊎ (to_of new ≤ from_of frame) → IsEarly new frame
     → (is_copy new frame ≡ false) × (conflicts new frame ≡ (is_last new && nat_lt (to_of new) (to_of frame)))
-apart_one new frame taken some (inl after) early = by_last (is_last frame) refl
-  where
-    by_last : (b : Bool) → is_last frame ≡ b → (is_copy new frame ≡ false)
-        × (conflicts new frame ≡ (is_last new && nat_lt (to_of new) (to_of frame)))
-    by_last true is = let e = early is in absurd (omega (arith, e, after))
-    by_last false is = apart_after new frame taken some after is
+apart_one new frame taken some (inl after) early =
+    by_cases (is_last frame) (λ is. let e = early is in absurd (omega (arith, e, after)))
+    (λ is. apart_after new frame taken some after is)
 apart_one new frame taken some (inr before) early = apart_before new frame taken some before
 
 -- frames with which a new one shares no place
@@ -246,13 +234,10 @@ unmet new frames extent marks kept are some before none =
     (early_each new (reach_of frames) frames early (last_reaches frames kept.held)) in
     let past = lt-ltb (to_of new) (reach_of frames) (ends_before new frames kept.held apart early) in
     let any : list_any (conflicts new) frames ≡ is_last new =
-    each.1 ∙ ap (λ (b : Bool). is_last new && b) past ∙ same (is_last new) in
+    each.1 ∙ ap (λ (b : Bool). is_last new && b) past
+    ∙ by_cases (is_last new) (λ e. simp e) (λ e. simp e) in
     ap (λ (b : Bool). cond b Copy (cond (list_any (conflicts new) frames) Conflict Fits)) each.0
     ∙ ap (λ (b : Bool). cond b Conflict Fits) any
-  where
-    same : (b : Bool) → (b && true) ≡ b
-    same true = refl
-    same false = refl
 
 -- two frames conflict with one another
 both_conflict : (a b : Frame) → takes_part a ≡ true → takes_part b ≡ true → conflicts a b ≡ conflicts b a
@@ -284,39 +269,25 @@ decided new [] at d held within is = absurd (omega arith)
 decided new (frame ∷ frames) zero d held within is =
     judged new (frame ∷ frames) held ∙ ap (λ (b : Bool). by_first new (cond b (Some frame) (find (conflicts new) frames))) is
 decided new (frame ∷ frames) (suc at) d held within is =
-    by_test (decided new frames at d held.2 (omega arith) is) (conflicts new frame) refl
+    by_cases (conflicts new frame) (λ here. judged new (frame ∷ frames) held ∙ simp (here, no_first, no_other here))
+    (λ here. judged new (frame ∷ frames) held
+    ∙ simp here (sym (judged new frames held.2) ∙ decided new frames at d held.2 below is))
   where
     below : at < length frames
     below = omega arith
 
-    other : Frame
-    other = get_or frames at d
-
-    none : conflicts other frame ≡ false
+    none : conflicts (get_or frames at d) frame ≡ false
     none = none_at (λ later. conflicts later frame) frames at d held.1 below
 
-    no_first : (b : Bool) → is_copy new frame ≡ b → is_copy new frame ≡ false
-    no_first false e = e
-    no_first true e =
-        absurd (both_ways _ none (both_conflict other frame (taken_at frames at d held.2 below) held.0
-        ∙ sym (alike_conflicts new frame other (alike new frame e)) ∙ is))
+    no_first : is_copy new frame ≡ false
+    no_first = by_cases (is_copy new frame)
+        (λ e. absurd (both_ways _ none (both_conflict (get_or frames at d) frame (taken_at frames at d held.2 below) held.0
+        ∙ sym (alike_conflicts new frame (get_or frames at d) (alike new frame e)) ∙ is))) (λ e. e)
 
-    no_other : conflicts new frame ≡ true → (b : Bool) → is_copy new other ≡ b → is_copy new other ≡ false
-    no_other here false e = e
-    no_other here true e = absurd (both_ways _ none (sym (alike_conflicts new other frame (alike new other e)) ∙ here))
-
-    by_test : judgement new frames ≡ cond (is_copy new other) Copy Conflict → (b : Bool) → conflicts new frame ≡ b
-        → judgement new (frame ∷ frames) ≡ cond (is_copy new other) Copy Conflict
-    by_test rest true here =
-        judged new (frame ∷ frames) held
-        ∙ ap (λ (b : Bool). by_first new (cond b (Some frame) (find (conflicts new) frames))) here
-        ∙ ap (λ (b : Bool). cond b Copy Conflict) (no_first (is_copy new frame) refl)
-        ∙ ap (λ (b : Bool). cond b Copy Conflict) (sym (no_other here (is_copy new other) refl))
-    by_test rest false here =
-        judged new (frame ∷ frames) held
-        ∙ ap (λ (b : Bool). by_first new (cond b (Some frame) (find (conflicts new) frames))) here
-        ∙ sym (judged new frames held.2)
-        ∙ rest
+    no_other : conflicts new frame ≡ true → is_copy new (get_or frames at d) ≡ false
+    no_other here = by_cases (is_copy new (get_or frames at d))
+        (λ e. absurd (both_ways _ none (sym (alike_conflicts new (get_or frames at d) frame
+        (alike new (get_or frames at d) e)) ∙ here))) (λ e. e)
 
 -- two frames that share a place conflict
 sharing : (new frame : Frame) → from_of new < to_of new → takes_part frame ≡ true → from_of new < to_of frame

@@ -31,7 +31,7 @@ end_push frames new = ap (option_map to_of) (find-append is_last frames (new ∷
     by_found None = by_test (is_last new)
     by_found (Some last) = refl
 
-reach_push : (frames : List Frame) (new : Frame) → reach_of (frames ++ new ∷ []) ≡ max (reach_of frames) (to_of new)
+pub reach_push : (frames : List Frame) (new : Frame) → reach_of (frames ++ new ∷ []) ≡ max (reach_of frames) (to_of new)
 reach_push [] new = omega arith
 reach_push (frame ∷ frames) new = let rest = reach_push frames new in omega (arith, rest)
 

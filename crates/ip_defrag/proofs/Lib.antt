@@ -1,3 +1,4 @@
+pub mod Cases
 pub mod Completed
 pub mod Covers
 pub mod Filled

@@ -1,5 +1,5 @@
 -- The marks of a datagram's units: what one says, and what is marked for one more frame.
-use Rattle.std.proofs.Common.{◌≡◌, ℕ, zero, suc, ◌+◌, ◌-◌, ◌*◌, ◌/◌, ◌<◌, ◌≤◌, max, min, Bool, true, false, ◌||◌, List, [], ◌∷◌}
+use Rattle.std.proofs.Common.{◌≡◌, ℕ, zero, suc, ◌+◌, ◌-◌, ◌*◌, ◌/◌, ◌<◌, ◌≤◌, min, true, false, List, [], ◌∷◌}
 use Rattle.std.proofs.Common.{◌++◌, length, take, drop, replicate, get_or, find, nat_lt, cond, None, Some, arith, refl, ap, sym}
 use Rattle.std.proofs.Common.{subst, ◌∙◌, inl, inr, length-append, length-drop}
 use Rattle.std.proofs.lemmas.Bool.{cases_lt, or_parts, ltb-true, ltb-false}
@@ -16,6 +16,8 @@ use Rattle.ip_defrag.specs.Fragments.{from_of, to_of}
 use Rattle.ip_defrag.specs.Held.{AreHeld}
 use Rattle.ip_defrag.specs.Marks.{AreMarked, AreMarks, holder, marked, own_marks, units_to}
 use Rattle.ip_defrag.specs.declared.marks.Marks.{Marks}
+use Rattle.ip_defrag.proofs.Cases.{by_cases}
+use Rattle.ip_defrag.proofs.Kept.{reach_push}
 use Rattle.ip_defrag.proofs.Filled.{held_take, last_alone}
 
 -- a unit and its first place
@@ -39,13 +41,9 @@ none_holds before (frame ∷ frames) place none =
 
 not_held : (before : ℕ) (frames : List Frame) (place : ℕ) → holder before frames place ≡ 0 → is_covered frames place ≡ false
 not_held before [] place none = refl
-not_held before (frame ∷ frames) place none = by_test (covers frame place) (not_held (before + 1) frames place) none
-  where
-    by_test : (b : Bool) → (holder (before + 1) frames place ≡ 0 → is_covered frames place ≡ false)
-        → cond b (before + 1) (holder (before + 1) frames place) ≡ 0
-        → (b || is_covered frames place) ≡ false
-    by_test true rest none = absurd (omega (arith, none))
-    by_test false rest none = rest none
+not_held before (frame ∷ frames) place none =
+    by_cases (covers frame place) (λ is. let some : before + 1 ≡ 0 = simp is at none in absurd (omega arith))
+    (λ is. simp is (not_held (before + 1) frames place (simp is at none)))
 
 pub record Holds (before : ℕ) (frames : List Frame) (place mark : ℕ) : Type 0 where
   pub after : before < mark
@@ -56,20 +54,17 @@ holds : (before : ℕ) (frames : List Frame) (place mark : ℕ) → holder befor
     → Holds before frames place mark
 holds before [] place mark is some = absurd (omega (arith, is, some))
 holds before (frame ∷ frames) place mark is some =
-    by_test (covers frame place) refl (λ rest. holds (before + 1) frames place mark rest some) is
-  where
-    by_test : (b : Bool) → covers frame place ≡ b
-        → (holder (before + 1) frames place ≡ mark → Holds (before + 1) frames place mark)
-        → cond b (before + 1) (holder (before + 1) frames place) ≡ mark → Holds before (frame ∷ frames) place mark
-    by_test true here rest is =
-        let first : mark - 1 - before ≡ 0 = omega (arith, is) in
-        record { after = omega (arith, is); within = omega (arith, first); covers_it = λ d. rw first here }
-    by_test false here rest is =
-        let h = rest is in
-        let after = h.after in
-        let within = h.within in
-        let next : mark - 1 - before ≡ suc (mark - 1 - (before + 1)) = omega (arith, after) in
-        record { after = omega (arith, after); within = omega (arith, next, within); covers_it = λ d. rw next (h.covers_it d) }
+    by_cases (covers frame place)
+    (λ here.
+    let mine : before + 1 ≡ mark = simp here at is in
+    let first : mark - 1 - before ≡ 0 = omega arith in
+    record { after = omega arith; within = omega (arith, first); covers_it = λ d. rw first here })
+    (λ here.
+    let h = holds (before + 1) frames place mark (simp here at is) some in
+    let after = h.after in
+    let within = h.within in
+    let next : mark - 1 - before ≡ suc (mark - 1 - (before + 1)) = omega (arith, after) in
+    record { after = omega (arith, after); within = omega (arith, next, within); covers_it = λ d. rw next (h.covers_it d) })
 
 -- one more frame
 holder_other : (before : ℕ) (frames : List Frame) (new : Frame) (place : ℕ) → covers new place ≡ false
@@ -84,10 +79,6 @@ holder_new before [] new place none here = rw here (omega arith)
 holder_new before (frame ∷ frames) new place none here =
     let parts = or_parts (covers frame place) (is_covered frames place) none in
     rw parts.0 (holder_new (before + 1) frames new place parts.1 here ∙ omega arith)
-
-reach_more : (frames : List Frame) (new : Frame) → reach_of (frames ++ new ∷ []) ≡ max (reach_of frames) (to_of new)
-reach_more [] new = omega arith
-reach_more (frame ∷ frames) new = let rest = reach_more frames new in omega (arith, rest)
 
 -- marks of units that nobody has
 pub wider : (marks : List ℕ) (frames : List Frame) (more : ℕ) → AreMarks marks frames
@@ -137,7 +128,7 @@ marks_push marks frames new first last are held begins some ends tight within = 
     same = length-marked marks first last (length frames + 1) order within
 
     all : reach_of (frames ++ new ∷ []) ≤ 8 * length (marked first last (length frames + 1) marks)
-    all = let reach = reach_more frames new in let before = are.all in omega (arith, reach, before, same, ends, within)
+    all = let reach = reach_push frames new in let before = are.all in omega (arith, reach, before, same, ends, within)
 
     front : length (take first marks) ≡ first
     front = length-take-le first marks (omega (arith, order, within))
@@ -200,30 +191,24 @@ record IsFound (marks : List ℕ) (mark : ℕ) : Type 0 where
 
 found_mark : (marks : List ℕ) (mark : ℕ) → find (λ mark. nat_lt 0 mark) marks ≡ Some mark → IsFound marks mark
 found_mark [] mark e = absurd (none-some mark e)
-found_mark (first ∷ marks) mark e = by_test (nat_lt 0 first) refl (λ rest. found_mark marks mark rest) e
-  where
-    by_test : (b : Bool) → nat_lt 0 first ≡ b → (find (λ mark. nat_lt 0 mark) marks ≡ Some mark → IsFound marks mark)
-        → cond b (Some first) (find (λ mark. nat_lt 0 mark) marks) ≡ Some mark → IsFound (first ∷ marks) mark
-    by_test true some rest e =
-        let same = same_Some _ _ e in
-        let more = ltb-true 0 first some in
-        record { unit = 0; within = omega arith; is = same; some = omega (arith, same, more) }
-    by_test false none rest e =
-        let f = rest e in
-        let within = f.within in
-        record { unit = suc f.unit; within = omega (arith, within); is = f.is; some = f.some }
+found_mark (first ∷ marks) mark e =
+    by_cases (nat_lt 0 first)
+    (λ some.
+    let same = same_Some _ _ (simp some at e) in
+    let more = ltb-true 0 first some in
+    record { unit = 0; within = omega arith; is = same; some = omega (arith, same, more) })
+    (λ none.
+    let f = found_mark marks mark (simp none at e) in
+    let within = f.within in
+    record { unit = suc f.unit; within = omega (arith, within); is = f.is; some = f.some })
 
 no_mark : (marks : List ℕ) → find (λ mark. nat_lt 0 mark) marks ≡ None → (unit : ℕ) → unit < length marks
     → get_or marks unit 0 ≡ 0
 no_mark [] e unit h = absurd (omega arith)
-no_mark (first ∷ marks) e unit h = by_test (nat_lt 0 first) refl e (λ rest unit h. no_mark marks rest unit h) unit h
-  where
-    by_test : (b : Bool) → nat_lt 0 first ≡ b → cond b (Some first) (find (λ mark. nat_lt 0 mark) marks) ≡ None
-        → (find (λ mark. nat_lt 0 mark) marks ≡ None → (unit : ℕ) → unit < length marks → get_or marks unit 0 ≡ 0)
-        → (unit : ℕ) → unit < length (first ∷ marks) → get_or (first ∷ marks) unit 0 ≡ 0
-    by_test true some e rest unit h = absurd (none-some first (sym e))
-    by_test false none e rest zero h = let less = ltb-false 0 first none in omega (arith, less)
-    by_test false none e rest (suc unit) h = rest e unit (omega arith)
+no_mark (first ∷ marks) e zero h = by_cases (nat_lt 0 first) (λ some. absurd (none-some first (sym (simp some at e))))
+    (λ none. let less = ltb-false 0 first none in omega (arith, less))
+no_mark (first ∷ marks) e (suc unit) h = by_cases (nat_lt 0 first) (λ some. absurd (none-some first (sym (simp some at e))))
+    (λ none. no_mark marks (simp none at e) unit (omega arith))
 
 -- the mark of a unit, among those in which a frame has places
 own_mark : (marks : List ℕ) (frame : Frame) (unit : ℕ) → from_of frame / 8 ≤ unit → unit < units_to (to_of frame)

@@ -1,5 +1,5 @@
 -- A fragment's pass does to the groups what it does to the flat list.
-use Rattle.std.proofs.Common.{◌≡◌, ℕ, zero, suc, ◌+◌, ◌-◌, ◌<◌, ◌≤◌, Bool, true, false, not, ◌&&◌, ◌||◌, nat_eq, List, [], ◌∷◌}
+use Rattle.std.proofs.Common.{◌≡◌, ℕ, zero, suc, ◌+◌, ◌-◌, ◌<◌, ◌≤◌, Bool, true, false, not, ◌&&◌, nat_eq, List, [], ◌∷◌}
 use Rattle.std.proofs.Common.{◌++◌, length, length-append, map, filter, set, get_or, Option, None, Some, cond, if◌then◌else◌}
 use Rattle.std.proofs.Common.{arith, refl, ap, ◌∙◌, sym, subst}
 use Rattle.std.specs.List.{list_any, remove, position_from}
@@ -8,7 +8,7 @@ use Rattle.std.proofs.lemmas.List.Elements.{filter-append}
 use Rattle.std.proofs.lemmas.List.Filters.{length-filter_both}
 use Rattle.std.proofs.lemmas.List.Folds.{list_any_at}
 use Rattle.std.proofs.lemmas.List.Sums.{sum_by-cons}
-use Rattle.std.proofs.lemmas.Bool.{and_parts, ne_eqb, eqb-true, eqb-false}
+use Rattle.std.proofs.lemmas.Bool.{and_parts, cond_both, ne_eqb, eqb-true, eqb-false}
 use Rattle.std.proofs.lemmas.Option.{same_Some, none-some}
 use Rattle.frame_view.specs.declared.frames.Frame.{Frame}
 use Rattle.ip_defrag.specs.Fragments.{takes_part, name_of, from_of, to_of, is_last}
@@ -22,6 +22,7 @@ use Rattle.ip_defrag.specs.declared.rules.Judgement.{Judgement}
 use Rattle.ip_defrag.specs.declared.rules.Judgement.TheVariants.{Copy, Conflict, Fits}
 use Rattle.ip_defrag.specs.Held.{filled}
 use Rattle.ip_defrag.specs.declared.names.Name.{Name}
+use Rattle.ip_defrag.proofs.Cases.{by_cases}
 use Rattle.ip_defrag.proofs.Completed.{not_completed}
 use Rattle.ip_defrag.proofs.Covers.{has_data}
 use Rattle.ip_defrag.proofs.Groups.{same_name_refl, same_name_is, differs, by_name, by_group, filter_twice, of_name_filter}
@@ -41,23 +42,12 @@ groups_fresh now held =
     ∙ filter-map (group_of held) (by_group (fresh_name now held)) (names_of held)
     ∙ sym (filter-map (group_of held) (is_fresh now) (names_of held))
 
-and_true : (b : Bool) → (b && true) ≡ b
-and_true true = refl
-and_true false = refl
-
-and_false : (b : Bool) → (b && false) ≡ false
-and_false true = refl
-and_false false = refl
-
 any_filter : {X : Type 0} (p q : X → Bool) (xs : List X) → list_any p (filter q xs) ≡ list_any (λ x. p x && q x) xs
 any_filter p q [] = refl
-any_filter {X} p q (x ∷ xs) = by_test (q x) refl (any_filter p q xs)
-  where
-    by_test : (b : Bool) → q x ≡ b → list_any p (filter q xs) ≡ list_any (λ y. p y && q y) xs
-        → list_any p (cond (q x) (x ∷ filter q xs) (filter q xs)) ≡ ((p x && q x) || list_any (λ y. p y && q y) xs)
-    by_test true e rest = let here = and_true (p x) in simp e (cc (here, rest))
-    by_test false e rest = let here = and_false (p x) in
-        simp e (rest ∙ ap (λ (b : Bool). b || list_any (λ y. p y && q y) xs) (sym here))
+any_filter p q (x ∷ xs) =
+    let rest = any_filter p q xs in
+    by_cases (q x) (λ e. by_cases (p x) (λ d. simp (d, e)) (λ d. simp (d, e) rest))
+    (λ e. by_cases (p x) (λ d. simp (d, e) rest) (λ d. simp (d, e) rest))
 
 live_fresh : (name : Name) (now : ℕ) (held : List Frame)
     → list_any (is_live name now) (groups held) ≡ list_any (is_named name) (fresh now held)
@@ -68,16 +58,15 @@ live_fresh name now held =
 -- a fragment alone isn't a datagram
 alone : (frame : Frame) → takes_part frame ≡ true → completed (frame ∷ []) frame ≡ None
 unfolding completed
-alone frame taken = by_test (is_last frame) refl
-  where
-    by_test : (b : Bool) → is_last frame ≡ b → completed (frame ∷ []) frame ≡ None
-    by_test false e = ap (λ (b : Bool). completed_at (cond b (Some frame) None) (frame ∷ []) frame) e
-    by_test true e =
-        let begins = begins_later frame taken e in
-        let some = (has_data frame taken).0 in
-        let count = sum_by-cons (λ (f : Frame). to_of f - from_of f) frame [] in
-        let counted : nat_eq (filled (frame ∷ [])) (to_of frame) ≡ false = ne_eqb _ _ (λ same. omega arith) in
-        not_completed (frame ∷ []) frame frame (taken, refl, tt) (ap (λ (b : Bool). cond b (Some frame) None) e) counted
+alone frame taken =
+    by_cases (is_last frame)
+    (λ e.
+    let begins = begins_later frame taken e in
+    let some = (has_data frame taken).0 in
+    let count = sum_by-cons (λ (f : Frame). to_of f - from_of f) frame [] in
+    let counted : nat_eq (filled (frame ∷ [])) (to_of frame) ≡ false = ne_eqb _ _ (λ same. omega arith) in
+    not_completed (frame ∷ []) frame frame (taken, refl, tt) (ap (λ (b : Bool). cond b (Some frame) None) e) counted)
+    (λ e. ap (λ (b : Bool). completed_at (cond b (Some frame) None) (frame ∷ []) frame) e)
 
 -- a group is that of its name
 group_in : (held : List Frame) (names : List Name) (at : ℕ) (d : Group) → at < length (map (group_of held) names)
@@ -115,16 +104,10 @@ groups_without_first (frame ∷ held) many =
 
 groups_with_room : (name : Name) (held : List Frame) → list_any (is_named name) held ≡ false
     → groups (with_room name held) ≡ with_place (groups held)
-groups_with_room name held none = by_test (nat_eq (length (names_of held)) most_names) refl
-  where
-    many : length (groups held) ≡ length (names_of held)
-    many = length_groups held
-
-    by_test : (b : Bool) → nat_eq (length (names_of held)) most_names ≡ b
-        → groups (cond (not (list_any (is_named name) held) && nat_eq (length (names_of held)) most_names) (without_first held)
-        held) ≡ cond (nat_eq (length (groups held)) most_names) (remove (groups held) 0) (groups held)
-    by_test true e = simp (none, many, e) (groups_without_first held (many ∙ eqb-true _ _ e))
-    by_test false e = simp (none, many, e)
+groups_with_room name held none =
+    let many = length_groups held in
+    by_cases (nat_eq (length (names_of held)) most_names)
+    (λ e. simp (none, many, e) (groups_without_first held (many ∙ eqb-true _ _ e))) (λ e. simp (none, many, e))
 
 -- no frame of a name that isn't there is there afterwards
 none_without_first : (name : Name) (held : List Frame) → list_any (is_named name) held ≡ false
@@ -135,11 +118,9 @@ none_without_first name (frame ∷ held) none =
 
 none_with_room : (name : Name) (held : List Frame) → list_any (is_named name) held ≡ false
     → list_any (is_named name) (with_room name held) ≡ false
-none_with_room name held none = by_test (not (list_any (is_named name) held) && nat_eq (length (names_of held)) most_names)
-  where
-    by_test : (b : Bool) → list_any (is_named name) (cond b (without_first held) held) ≡ false
-    by_test true = none_without_first name held none
-    by_test false = none
+none_with_room name held none =
+    cond_both _ _ _ (λ (some : List Frame). list_any (is_named name) some ≡ false) (λ e. none_without_first name held none)
+    (λ e. none)
 
 length_filter-le : {X : Type 0} (p : X → Bool) (xs : List X) → length (filter p xs) ≤ length xs
 length_filter-le p xs = omega (arith, length-filter_both p (λ x. not (p x)) (λ x. refl) xs)
@@ -149,11 +130,9 @@ length_without_first [] = omega arith
 length_without_first (frame ∷ held) = length_filter-le (λ f. not (is_named (name_of frame) f)) (frame ∷ held)
 
 length_with_room : (name : Name) (held : List Frame) → length (with_room name held) ≤ length held
-length_with_room name held = by_test (not (list_any (is_named name) held) && nat_eq (length (names_of held)) most_names)
-  where
-    by_test : (b : Bool) → length (cond b (without_first held) held) ≤ length held
-    by_test true = length_without_first held
-    by_test false = omega arith
+length_with_room name held =
+    cond_both _ (without_first held) held (λ (some : List Frame). length some ≤ length held)
+    (λ e. length_without_first held) (λ e. omega arith)
 
 length_kept : (frame : Frame) (held : List Frame) → length (kept_for frame held) ≤ length held
 unfolding kept_for
@@ -236,19 +215,13 @@ judge_is frame kept gone =
 filter-map_same : {X : Type 0} (p : X → Bool) (f : X → X) → ((x : X) → p (f x) ≡ p x) → (xs : List X)
     → filter p (map f xs) ≡ map f (filter p xs)
 filter-map_same p f same [] = refl
-filter-map_same {X} p f same (x ∷ xs) = by_test (filter-map_same p f same xs) (p x) refl
-  where
-    by_test : filter p (map f xs) ≡ map f (filter p xs) → (b : Bool) → p x ≡ b
-        → cond (p (f x)) (f x ∷ filter p (map f xs)) (filter p (map f xs)) ≡ map f (cond (p x) (x ∷ filter p xs) (filter p xs))
-    by_test rest true e = let here = same x ∙ e in simp (here, e) (ap (λ (ys : List X). f x ∷ ys) rest)
-    by_test rest false e = let here = same x ∙ e in simp (here, e) rest
+filter-map_same {X} p f same (x ∷ xs) =
+    let rest = filter-map_same p f same xs in
+    by_cases (p x) (λ e. let here = same x ∙ e in simp (here, e) (ap (λ (ys : List X). f x ∷ ys) rest))
+    (λ e. let here = same x ∙ e in simp (here, e) rest)
 
 fresh_updated : (now : ℕ) (frame : Frame) (group : Group) → is_fresh now (updated frame group) ≡ is_fresh now group
-fresh_updated now frame group = by_test (has_name (name_of frame) group)
-  where
-    by_test : (b : Bool) → is_fresh now (cond b (with_frame frame group) group) ≡ is_fresh now group
-    by_test true = refl
-    by_test false = refl
+fresh_updated now frame group = by_cases (has_name (name_of frame) group) (λ e. simp e) (λ e. simp e)
 
 module _ (held : List Frame) (frame : Frame) (at : ℕ) (d : Group) (taken : takes_part frame ≡ true)
     (below : at < length (groups held)) (live : is_live (name_of frame) frame.sec (get_or (groups held) at d) ≡ true) where
@@ -331,22 +304,16 @@ module _ (held : List Frame) (frame : Frame) (at : ℕ) (d : Group) (taken : tak
         counted = omega (arith, short, parts, ap length without_new);
       }
 
-  by_judgement : (a b : Bool) → list_any (is_copy frame) group.fragments ≡ a → list_any (conflicts frame) group.fragments ≡ b
-      → Agrees (judge_with group.fragments frame kept gone) (length held)
-      (filter (is_fresh frame.sec) (joined frame group (groups held) at).left) (joined frame group (groups held) at).whole
-      (joined frame group (groups held) at).used
-  unfolding joined held_by
-  by_judgement true b p q =
-      simp p (record { left_is = sym (groups_fresh frame.sec held); whole_is = refl; counted = omega (arith, short) })
-  by_judgement false true p q =
-      simp (p, q) (record { left_is = removed; whole_is = refl; counted = omega (arith, short, parts) })
-  by_judgement false false p q = simp (p, q) (by_whole (completed (group.fragments ++ frame ∷ []) frame))
-
   pub joins : Agrees (pass held frame) (length held) (filter (is_fresh frame.sec) (joined frame group (groups held) at).left)
       (joined frame group (groups held) at).whole (joined frame group (groups held) at).used
+  unfolding joined held_by
   joins = subst (λ (p : Passed). Agrees p (length held) (filter (is_fresh frame.sec) (joined frame group (groups held) at).left)
       (joined frame group (groups held) at).whole (joined frame group (groups held) at).used) (sym pass_is)
-      (by_judgement _ _ refl refl)
+      (by_cases (list_any (is_copy frame) group.fragments)
+      (λ p. simp p (record { left_is = sym (groups_fresh frame.sec held); whole_is = refl; counted = omega (arith, short) }))
+      (λ p. by_cases (list_any (conflicts frame) group.fragments)
+      (λ q. simp (p, q) (record { left_is = removed; whole_is = refl; counted = omega (arith, short, parts) }))
+      (λ q. simp (p, q) (by_whole (completed (group.fragments ++ frame ∷ []) frame)))))
 
 -- the place of the first that passes
 pub record FoundAt {X : Type 0} (p : X → Bool) (xs : List X) (at : ℕ) : Type 0 where
@@ -356,33 +323,28 @@ pub record FoundAt {X : Type 0} (p : X → Bool) (xs : List X) (at : ℕ) : Type
 found_from : {X : Type 0} (p : X → Bool) (from : ℕ) (xs : List X) (at : ℕ) → position_from p from xs ≡ Some at
     → (from ≤ at) × FoundAt p xs (at - from)
 found_from p from [] at e = absurd (none-some at e)
-found_from {X} p from (x ∷ xs) at e = by_test (found_from p (from + 1) xs at) (p x) refl e
-  where
-    by_test : (position_from p (from + 1) xs ≡ Some at → (from + 1 ≤ at) × FoundAt p xs (at - (from + 1))) → (b : Bool)
-        → p x ≡ b → cond b (Some from) (position_from p (from + 1) xs) ≡ Some at → (from ≤ at) × FoundAt p (x ∷ xs) (at - from)
-    by_test rest true is e =
-        let same : from ≡ at = same_Some _ _ e in
-        let none : at - from ≡ 0 = omega arith in
-        (omega arith, subst (FoundAt p (x ∷ xs)) (sym none) (record { below = omega arith; passes = λ d. is }))
-    by_test rest false is e =
-        let later = rest e in
-        let next : at - from ≡ suc (at - (from + 1)) = omega (arith, later.0) in (
-          omega (arith, later.0),
-          subst (FoundAt p (x ∷ xs)) (sym next)
-              (record { below = omega (arith, later.1.below); passes = later.1.passes }),
-        )
+found_from p from (x ∷ xs) at e =
+    by_cases (p x)
+    (λ is.
+    let same : from ≡ at = same_Some _ _ (simp is at e) in
+    let none : at - from ≡ 0 = omega arith in
+    (omega arith, subst (FoundAt p (x ∷ xs)) (sym none) (record { below = omega arith; passes = λ d. is })))
+    (λ is.
+    let later = found_from p (from + 1) xs at (simp is at e) in
+    let next : at - from ≡ suc (at - (from + 1)) = omega (arith, later.0) in (
+      omega (arith, later.0),
+      subst (FoundAt p (x ∷ xs)) (sym next)
+          (record { below = omega (arith, later.1.below); passes = later.1.passes }),
+    ))
 
 pub found_at : {X : Type 0} (p : X → Bool) (xs : List X) (at : ℕ) → position_from p 0 xs ≡ Some at → FoundAt p xs at
 found_at p xs at e = let zero : at - 0 ≡ at = omega arith in subst (FoundAt p xs) zero (found_from p 0 xs at e).1
 
 pub none_found : {X : Type 0} (p : X → Bool) (from : ℕ) (xs : List X) → position_from p from xs ≡ None → list_any p xs ≡ false
 none_found p from [] e = refl
-none_found {X} p from (x ∷ xs) e = by_test (none_found p (from + 1) xs) (p x) e
-  where
-    by_test : (position_from p (from + 1) xs ≡ None → list_any p xs ≡ false) → (b : Bool)
-        → cond b (Some from) (position_from p (from + 1) xs) ≡ None → (b || list_any p xs) ≡ false
-    by_test rest true e = absurd (none-some from (sym e))
-    by_test rest false e = rest e
+none_found p from (x ∷ xs) e =
+    by_cases (p x) (λ is. absurd (none-some from (sym (simp is at e))))
+    (λ is. simp is (none_found p (from + 1) xs (simp is at e)))
 
 -- the number of groups is within the bound, as before
 length_remove : {X : Type 0} (xs : List X) (at : ℕ) → length (remove xs at) ≤ length xs
@@ -396,11 +358,10 @@ length_remove_first [] some = absurd (omega arith)
 length_remove_first (x ∷ xs) some = omega arith
 
 length_with_place : (some : List Group) → length some ≤ most_names → length (with_place some) < most_names
-length_with_place some few = by_test (nat_eq (length some) most_names) refl
-  where
-    by_test : (b : Bool) → nat_eq (length some) most_names ≡ b → length (cond b (remove some 0) some) < most_names
-    by_test true e = let many = eqb-true (length some) most_names e in omega (arith, many, length_remove_first some)
-    by_test false e = let less = eqb-false (length some) most_names e in omega (arith, less)
+length_with_place some few =
+    cond_both (nat_eq (length some) most_names) _ _ (λ (left : List Group). length left < most_names)
+    (λ e. let many = eqb-true (length some) most_names e in omega (arith, many, length_remove_first some))
+    (λ e. let less = eqb-false (length some) most_names e in omega (arith, less))
 
 pub few_opened : (frame : Frame) (some : List Group) → length some ≤ 64 → length (after_opening frame some) ≤ 64
 unfolding after_opening
@@ -438,6 +399,12 @@ placed name name' now now' some some' place p q r h =
     sym (h ∙ ap (λ (n : Name). position_from (is_live n now) 0 some) p
     ∙ ap (λ (t : ℕ). position_from (is_live name' t) 0 some) q
     ∙ ap (λ (gs : List Group). position_from (is_live name' now') 0 gs) r)
+
+-- what is fresh is left of what was joined
+pub left_fresh : (frame other : Frame) (left here wanted : List Group) → left ≡ filter (is_fresh other.sec) here → other ≡ frame
+    → here ≡ wanted → left ≡ filter (is_fresh frame.sec) wanted
+left_fresh frame other left here wanted is same joined_is =
+    is ∙ ap (λ (f : Frame). filter (is_fresh f.sec) here) same ∙ ap (filter (is_fresh frame.sec)) joined_is
 
 -- the two ways of a pass, if the groups are those of a flat list
 pub opens_by : (held : List Frame) (frame : Frame) (some left : List Group) → takes_part frame ≡ true → some ≡ groups held
@@ -506,8 +473,6 @@ lost_taken held frame (Some at) taken is none =
 
 pub lost : (held : List Frame) (frame : Frame) → (pass held frame).whole ≡ None
     → (pass held frame).discarded + length (pass held frame).held ≡ length held + 1
-lost held frame none = by_test (takes_part frame) refl
-  where
-    by_test : (b : Bool) → takes_part frame ≡ b → (pass held frame).discarded + length (pass held frame).held ≡ length held + 1
-    by_test true e = lost_taken held frame _ e refl none
-    by_test false e = absurd (none-some frame (sym none ∙ ap (λ (p : Passed). p.whole) (pass_other held frame e)))
+lost held frame none =
+    by_cases (takes_part frame) (λ e. lost_taken held frame _ e refl none)
+    (λ e. absurd (none-some frame (sym none ∙ ap (λ (p : Passed). p.whole) (pass_other held frame e))))

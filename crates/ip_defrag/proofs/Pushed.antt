@@ -14,6 +14,7 @@ use Rattle.ip_defrag.specs.Fragments.{name_of}
 use Rattle.ip_defrag.specs.Fold.{same_name, is_named, of_name, without, names_of, opened_at}
 use Rattle.ip_defrag.specs.Grouped.{Group, group_of, groups, has_name, with_frame, updated, opened_by, total}
 use Rattle.ip_defrag.specs.declared.names.Name.{Name}
+use Rattle.ip_defrag.proofs.Cases.{by_cases}
 use Rattle.ip_defrag.proofs.Groups.{same_name_refl, same_name_is, same_name_sym, differs, by_group, groups_filter}
 
 same_names : (a b : Name) → same_name a b ≡ false → same_name b a ≡ false
@@ -22,14 +23,10 @@ same_names a b e = same_name_sym b a ∙ e
 pub none_filter : {X : Type 0} (test p : X → Bool) (xs : List X) → list_any test xs ≡ false
     → list_any test (filter p xs) ≡ false
 none_filter test p [] none = refl
-none_filter {X} test p (x ∷ xs) none =
-    by_test (or_parts (test x) (list_any test xs) none).0
-    (none_filter test p xs (or_parts (test x) (list_any test xs) none).1) (p x) refl
-  where
-    by_test : test x ≡ false → list_any test (filter p xs) ≡ false → (b : Bool) → p x ≡ b
-        → list_any test (cond (p x) (x ∷ filter p xs) (filter p xs)) ≡ false
-    by_test here rest true e = simp e (or_from _ _ here rest)
-    by_test here rest false e = simp e rest
+none_filter test p (x ∷ xs) none =
+    let parts = or_parts (test x) (list_any test xs) none in
+    let rest = none_filter test p xs parts.1 in
+    by_cases (p x) (λ e. simp e (or_from _ _ parts.0 rest)) (λ e. simp e rest)
 
 pub none_named : {X : Type 0} (test : X → Bool) (xs : List X) → list_any test xs ≡ false → filter test xs ≡ []
 none_named test [] none = refl
@@ -50,66 +47,42 @@ pub names_push : (held : List Frame) (new : Frame)
     (names_of held ++ name_of new ∷ [])
 names_push [] new = refl
 names_push (frame ∷ held) new =
-    by_test (names_push held new) (same_name (name_of frame) (name_of new)) refl (list_any (is_named (name_of new)) held) refl
-  where
-    first : Name
-    first = name_of frame
-
-    by_test : names_of (held ++ new ∷ []) ≡ cond (list_any (is_named (name_of new)) held) (names_of held)
-        (names_of held ++ name_of new ∷ []) → (a : Bool) → same_name (name_of frame) (name_of new) ≡ a → (b : Bool)
-        → list_any (is_named (name_of new)) held ≡ b
-        → name_of frame ∷ filter (differs (name_of frame)) (names_of (held ++ new ∷ []))
-        ≡ cond (same_name (name_of frame) (name_of new) || list_any (is_named (name_of new)) held)
-        (name_of frame ∷ filter (differs (name_of frame)) (names_of held))
-        (name_of frame ∷ (filter (differs (name_of frame)) (names_of held) ++ name_of new ∷ []))
-    by_test rest true p true q = simp (rest, p, q)
-    by_test rest false p true q = simp (rest, p, q)
-    by_test rest true p false q =
-        let same : name_of frame ≡ name_of new = same_name_is (name_of frame) (name_of new) p in
-        let gone : differs (name_of frame) (name_of new) ≡ false = ap not (same_name_sym (name_of new) (name_of frame) ∙ p) in
-        simp (rest, p, q)
-        (ap (λ (ns : List Name). name_of frame ∷ ns)
-        (filter-append (differs (name_of frame)) (names_of held) (name_of new ∷ [])
-        ∙ simp gone (append-nil (filter (differs (name_of frame)) (names_of held)))))
-    by_test rest false p false q =
-        let there : differs (name_of frame) (name_of new) ≡ true = ap not (same_name_sym (name_of new) (name_of frame) ∙ p) in
-        simp (rest, p, q)
-        (ap (λ (ns : List Name). name_of frame ∷ ns)
-        (filter-append (differs (name_of frame)) (names_of held) (name_of new ∷ []) ∙ simp there))
+    let rest = names_push held new in
+    let other = same_name_sym (name_of new) (name_of frame) in
+    by_cases (same_name (name_of frame) (name_of new))
+    (λ p. by_cases (list_any (is_named (name_of new)) held) (λ q. simp (rest, p, q)) (λ q.
+    let gone : differs (name_of frame) (name_of new) ≡ false = ap not (other ∙ p) in
+    simp (rest, p, q)
+    (ap (λ (ns : List Name). name_of frame ∷ ns)
+    (filter-append (differs (name_of frame)) (names_of held) (name_of new ∷ [])
+    ∙ simp gone (append-nil (filter (differs (name_of frame)) (names_of held)))))))
+    (λ p. by_cases (list_any (is_named (name_of new)) held) (λ q. simp (rest, p, q)) (λ q.
+    let there : differs (name_of frame) (name_of new) ≡ true = ap not (other ∙ p) in
+    simp (rest, p, q)
+    (ap (λ (ns : List Name). name_of frame ∷ ns)
+    (filter-append (differs (name_of frame)) (names_of held) (name_of new ∷ []) ∙ simp there))))
 
 opened_push : (name : Name) (held : List Frame) (new : Frame)
     → opened_at name (held ++ new ∷ []) ≡ cond (list_any (is_named name) held) (opened_at name held)
     (cond (is_named name new) new.sec 0)
 opened_push name [] new = refl
-opened_push name (frame ∷ held) new = by_test (opened_push name held new) (same_name (name_of frame) name) refl
-  where
-    by_test : opened_at name (held ++ new ∷ []) ≡ cond (list_any (is_named name) held) (opened_at name held)
-        (cond (is_named name new) new.sec 0) → (b : Bool) → same_name (name_of frame) name ≡ b
-        → cond (same_name (name_of frame) name) frame.sec (opened_at name (held ++ new ∷ []))
-        ≡ cond (same_name (name_of frame) name || list_any (is_named name) held)
-        (cond (same_name (name_of frame) name) frame.sec (opened_at name held)) (cond (is_named name new) new.sec 0)
-    by_test rest true e = simp e
-    by_test rest false e = simp e rest
+opened_push name (frame ∷ held) new =
+    let rest = opened_push name held new in
+    by_cases (same_name (name_of frame) name) (λ e. simp e) (λ e. simp e rest)
 
 -- a name is among the groups if it is among the frames
 any_names : (name : Name) (held : List Frame) → list_any (λ other. same_name other name) (names_of held)
     ≡ list_any (is_named name) held
 any_names name [] = refl
-any_names name (frame ∷ held) = by_test (any_names name held) (same_name (name_of frame) name) refl
+any_names name (frame ∷ held) =
+    by_cases (same_name (name_of frame) name) (λ e. simp e) (λ e.
+    simp e (any-filter_same (λ other. same_name other name) (differs (name_of frame)) true (stays e) (names_of held)
+    ∙ any_names name held))
   where
     stays : same_name (name_of frame) name ≡ false → (other : Name) → same_name other name ≡ true
         → differs (name_of frame) other ≡ true
     stays e other is =
         ap not (same_name_sym other (name_of frame) ∙ ap (same_name (name_of frame)) (same_name_is other name is) ∙ e)
-
-    by_test : list_any (λ other. same_name other name) (names_of held) ≡ list_any (is_named name) held → (b : Bool)
-        → same_name (name_of frame) name ≡ b
-        → (same_name (name_of frame) name || list_any (λ other. same_name other name)
-        (filter (differs (name_of frame)) (names_of held)))
-        ≡ (same_name (name_of frame) name || list_any (is_named name) held)
-    by_test rest true e = simp e
-    by_test rest false e =
-        simp e (any-filter_same (λ other. same_name other name) (differs (name_of frame)) true (stays e) (names_of held) ∙ rest)
 
 any_group_names : (name : Name) (held : List Frame) (names : List Name)
     → list_any (has_name name) (map (group_of held) names) ≡ list_any (λ other. same_name other name) names
@@ -123,12 +96,9 @@ any_groups name held = any_group_names name held (names_of held) ∙ any_names n
 -- each name of a list has a frame there
 all_filter : {X : Type 0} (P : X → Type 0) (p : X → Bool) (xs : List X) → AllByRecursion P xs → AllByRecursion P (filter p xs)
 all_filter P p [] all = tt
-all_filter {X} P p (x ∷ xs) all = by_test (all_filter P p xs all.1) (p x) refl
-  where
-    by_test : AllByRecursion P (filter p xs) → (b : Bool) → p x ≡ b
-        → AllByRecursion P (cond (p x) (x ∷ filter p xs) (filter p xs))
-    by_test rest true e = simp e (all.0, rest)
-    by_test rest false e = simp e rest
+all_filter P p (x ∷ xs) all =
+    let rest = all_filter P p xs all.1 in
+    by_cases (p x) (λ e. simp e (all.0, rest)) (λ e. simp e rest)
 
 all_weaken : {X : Type 0} (P Q : X → Type 0) → ((x : X) → P x → Q x) → (xs : List X) → AllByRecursion P xs → AllByRecursion Q xs
 all_weaken P Q weaker [] all = tt
@@ -147,25 +117,22 @@ names_present (frame ∷ held) = (
 -- what becomes of the group of a name that is there
 group_push : (held : List Frame) (new : Frame) (name : Name) → list_any (is_named name) held ≡ true
     → group_of (held ++ new ∷ []) name ≡ updated new (group_of held name)
-group_push held new name there = by_test (same_name name (name_of new)) refl
+group_push held new name there =
+    by_cases (same_name name (name_of new))
+    (λ e.
+    let named : is_named name new ≡ true = same_name_sym (name_of new) name ∙ e in
+    let these : of_name name (held ++ new ∷ []) ≡ of_name name held ++ new ∷ [] =
+    filter-append (is_named name) held (new ∷ []) ∙ simp named in
+    simp e (cc (time, these)))
+    (λ e.
+    let named : is_named name new ≡ false = same_name_sym (name_of new) name ∙ e in
+    let these : of_name name (held ++ new ∷ []) ≡ of_name name held =
+    filter-append (is_named name) held (new ∷ []) ∙ simp named (append-nil (of_name name held)) in
+    simp e (cc (time, these)))
   where
     time : opened_at name (held ++ new ∷ []) ≡ opened_at name held
     time = opened_push name held new
         ∙ ap (λ (b : Bool). cond b (opened_at name held) (cond (is_named name new) new.sec 0)) there
-
-    by_test : (b : Bool) → same_name name (name_of new) ≡ b
-        → group_of (held ++ new ∷ []) name ≡ cond (same_name name (name_of new)) (with_frame new (group_of held name))
-        (group_of held name)
-    by_test true e =
-        let named : is_named name new ≡ true = same_name_sym (name_of new) name ∙ e in
-        let these : of_name name (held ++ new ∷ []) ≡ of_name name held ++ new ∷ [] =
-        filter-append (is_named name) held (new ∷ []) ∙ simp named in
-        simp e (cc (time, these))
-    by_test false e =
-        let named : is_named name new ≡ false = same_name_sym (name_of new) name ∙ e in
-        let these : of_name name (held ++ new ∷ []) ≡ of_name name held =
-        filter-append (is_named name) held (new ∷ []) ∙ simp named (append-nil (of_name name held)) in
-        simp e (cc (time, these))
 
 groups_push_names : (held : List Frame) (new : Frame) (names : List Name)
     → AllByRecursion (λ name. list_any (is_named name) held ≡ true) names
@@ -224,23 +191,16 @@ AreDistinct (group ∷ some) = (list_any (has_name group.name) some ≡ false) �
 
 distinct_filter : (p : Group → Bool) (some : List Group) → AreDistinct some → AreDistinct (filter p some)
 distinct_filter p [] distinct = tt
-distinct_filter p (group ∷ some) distinct = by_test (distinct_filter p some distinct.1) (p group) refl
-  where
-    by_test : AreDistinct (filter p some) → (b : Bool) → p group ≡ b
-        → AreDistinct (cond (p group) (group ∷ filter p some) (filter p some))
-    by_test rest true e = simp e (none_filter (has_name group.name) p some distinct.0, rest)
-    by_test rest false e = simp e rest
+distinct_filter p (group ∷ some) distinct =
+    let rest = distinct_filter p some distinct.1 in
+    by_cases (p group) (λ e. simp e (none_filter (has_name group.name) p some distinct.0, rest)) (λ e. simp e rest)
 
 pub filter-map : {X Y : Type 0} (f : X → Y) (p : Y → Bool) (xs : List X)
     → filter p (map f xs) ≡ map f (filter (λ x. p (f x)) xs)
 filter-map f p [] = refl
-filter-map {X} {Y} f p (x ∷ xs) = by_test (filter-map f p xs) (p (f x)) refl
-  where
-    by_test : filter p (map f xs) ≡ map f (filter (λ y. p (f y)) xs) → (b : Bool) → p (f x) ≡ b
-        → cond (p (f x)) (f x ∷ filter p (map f xs)) (filter p (map f xs))
-        ≡ map f (cond (p (f x)) (x ∷ filter (λ y. p (f y)) xs) (filter (λ y. p (f y)) xs))
-    by_test rest true e = simp e (ap (λ (ys : List Y). f x ∷ ys) rest)
-    by_test rest false e = simp e rest
+filter-map {X} {Y} f p (x ∷ xs) =
+    let rest = filter-map f p xs in
+    by_cases (p (f x)) (λ e. simp e (ap (λ (ys : List Y). f x ∷ ys) rest)) (λ e. simp e rest)
 
 names_distinct : (of : List Frame) (held : List Frame) → AreDistinct (map (group_of of) (names_of held))
 names_distinct of [] = tt
@@ -261,12 +221,9 @@ groups_distinct held = names_distinct held held
 -- a group of a name has some place
 at_not_first : (group : Group) (some : List Group) (at : ℕ) → list_any (has_name group.name) some ≡ false → at < length some
     → same_name (get_or some at group).name group.name ≡ false
-at_not_first group some at none h = by_test (same_name (get_or some at group).name group.name) refl
-  where
-    by_test : (b : Bool) → same_name (get_or some at group).name group.name ≡ b
-        → same_name (get_or some at group).name group.name ≡ false
-    by_test true e = absurd (both_ways _ none (list_any_at (has_name group.name) some at group h e))
-    by_test false e = e
+at_not_first group some at none h =
+    by_cases (same_name (get_or some at group).name group.name)
+    (λ e. absurd (both_ways _ none (list_any_at (has_name group.name) some at group h e))) (λ e. e)
 
 differs_from : (group : Group) (some : List Group) (at : ℕ) → list_any (has_name group.name) some ≡ false → at < length some
     → differs (get_or some at group).name group.name ≡ true
@@ -320,19 +277,10 @@ later_groups : (frame : Frame) (held : List Frame) (names : List Name)
     → map (group_of (frame ∷ held)) (filter (differs (name_of frame)) names)
     ≡ filter (by_group (differs (name_of frame))) (map (group_of held) names)
 later_groups frame held [] = refl
-later_groups frame held (name ∷ names) = by_test (later_groups frame held names) (differs (name_of frame) name) refl
-  where
-    by_test : map (group_of (frame ∷ held)) (filter (differs (name_of frame)) names)
-        ≡ filter (by_group (differs (name_of frame))) (map (group_of held) names) → (b : Bool)
-        → differs (name_of frame) name ≡ b
-        → map (group_of (frame ∷ held))
-        (cond (differs (name_of frame) name) (name ∷ filter (differs (name_of frame)) names)
-        (filter (differs (name_of frame)) names))
-        ≡ cond (differs (name_of frame) name)
-        (group_of held name ∷ filter (by_group (differs (name_of frame))) (map (group_of held) names))
-        (filter (by_group (differs (name_of frame))) (map (group_of held) names))
-    by_test rest true e = let here = later_group frame held name e in simp e (cc (here, rest))
-    by_test rest false e = simp e rest
+later_groups frame held (name ∷ names) =
+    let rest = later_groups frame held names in
+    by_cases (differs (name_of frame) name) (λ e. let here = later_group frame held name e in simp e (cc (here, rest)))
+    (λ e. simp e rest)
 
 pub groups-cons : (frame : Frame) (held : List Frame)
     → groups (frame ∷ held) ≡ group_of (frame ∷ held) (name_of frame) ∷ groups (without (name_of frame) held)
@@ -360,3 +308,8 @@ total_within (suc most) (frame ∷ held) short =
 
 pub total_groups : (held : List Frame) → total (groups held) ≡ length held
 total_groups held = total_within (length held) held (omega arith)
+
+-- a number that was counted over the groups of a flat list
+pub counted_left : (held : List Frame) (count : ℕ) (some left : List Group) → count ≡ total some → some ≡ left
+    → left ≡ groups held → count ≡ length held
+counted_left held count some left is same left_is = is ∙ ap total (same ∙ left_is) ∙ total_groups held
