@@ -1,19 +1,20 @@
 -- Data written to its places, one fragment after another.
 use Rattle.std.proofs.Common.{◌≡◌, ℕ, zero, suc, ◌+◌, ◌-◌, ◌<◌, ◌≤◌, Bool, true, false, List, [], ◌∷◌, ◌++◌, length, map}
-use Rattle.std.proofs.Common.{take, drop, replicate, get_or, slice_index, cond, arith, refl, ap, ◌∙◌, sym, subst, length-append}
-use Rattle.std.proofs.Common.{length-take, length-drop, inl, inr}
+use Rattle.std.proofs.Common.{take, drop, replicate, get_or, slice_index, cond, arith, refl, ap, ◌∙◌, sym, subst}
+use Rattle.std.proofs.Common.{length-take, length-drop}
 use Rattle.std.specs.List.{list_any}
-use Rattle.std.proofs.lemmas.List.{take_more, get_or_append_left, get_or-append_right, get_or-take, get_or-drop}
+use Rattle.std.proofs.lemmas.List.{take_more}
 use Rattle.std.proofs.lemmas.List.Folds.{list_any-append, list_any_at}
 use Rattle.std.proofs.lemmas.Grind.{same_number_lists}
-use Rattle.std.proofs.lemmas.Bool.{or_parts, or_from, or_left, or_right, both_ways, cases_lt}
+use Rattle.std.proofs.lemmas.Bool.{or_parts, or_from, or_left, or_right, both_ways}
 use Rattle.std.proofs.lemmas.Bool.Decides.{nat_tests}
 use Rattle.frame_view.specs.declared.frames.Frame.{Frame}
 use Rattle.ip_defrag.specs.Fragments.{takes_part, from_of, to_of, data_of}
 use Rattle.ip_defrag.specs.Datagrams.{places, covers, is_covered, own_byte, byte_at}
-use Rattle.ip_defrag.specs.Held.{AreHeld, written}
+use Rattle.ip_defrag.specs.Held.{AreHeld}
 use Rattle.ip_defrag.proofs.Cases.{by_cases}
 use Rattle.ip_defrag.proofs.Covers.{first_alone, has_data}
+use Rattle.ip_defrag.proofs.Spliced.{get_or-spliced, length-spliced}
 use Rattle.ip_defrag.proofs.Taken.{read_of}
 
 -- as many bytes of data as places
@@ -84,83 +85,45 @@ last_taken [] new held = held.0
 last_taken (frame ∷ frames) new held = last_taken frames new held.2
 
 module _ (frames : List Frame) (new : Frame) (end : ℕ) (held : AreHeld (frames ++ new ∷ [])) (within : to_of new ≤ end) where
-  before : List ℕ
+  abbrev before : List ℕ
   before = map (byte_at frames) (places 0 end)
-
-  some : from_of new < to_of new
-  some = (has_data new (last_taken frames new held)).0
-
-  length-before : length before ≡ end
-  unfolding before
-  length-before = length-map-places (byte_at frames) 0 end
-
-  data_length : length (data_of new) ≡ to_of new - from_of new
-  data_length = length-data_of new (last_taken frames new held)
-
-  front_length : length (take (from_of new) before) ≡ from_of new
-  front_length = let e = length-take (from_of new) before in omega (arith, e, length-before, some)
-
-  length-written : length (written new before) ≡ end
-  unfolding before
-  length-written =
-      omega (
-        arith,
-        front_length,
-        data_length,
-        length-before,
-        some,
-        length-append (take (from_of new) before) (data_of new ++ drop (to_of new) before),
-        length-append (data_of new) (drop (to_of new) before),
-        length-drop (to_of new) before,
-      )
-
-  at_front : (k : ℕ) → k < from_of new → get_or (written new before) k 0 ≡ byte_at (frames ++ new ∷ []) k
-  unfolding before
-  at_front k h =
-      let there : covers new k ≡ false = grind (arith, nat_tests) in
-      get_or_append_left (take (from_of new) before) (data_of new ++ drop (to_of new) before) 0 k (omega (arith, front_length))
-      ∙ get_or-take (from_of new) before k 0 h
-      ∙ get_or-map-below (byte_at frames) end k (omega (arith, some))
-      ∙ sym (byte_at_other frames new k there)
-
-  at_data : (k : ℕ) → from_of new ≤ k → k < to_of new → get_or (written new before) k 0 ≡ byte_at (frames ++ new ∷ []) k
-  unfolding before
-  at_data k low high =
-      let here : covers new k ≡ true = grind (arith, nat_tests) in
-      get_or-append_right (take (from_of new) before) (data_of new ++ drop (to_of new) before) (from_of new) k 0
-      front_length low
-      ∙ get_or_append_left (data_of new) (drop (to_of new) before) 0 (k - from_of new) (omega (arith, data_length))
-      ∙ sym (byte_at_new frames new k (last_alone frames new k held here) here)
-
-  at_back : (k : ℕ) → to_of new ≤ k → k < end → get_or (written new before) k 0 ≡ byte_at (frames ++ new ∷ []) k
-  unfolding before
-  at_back k low high =
-      let there : covers new k ≡ false = grind (arith, nat_tests) in
-      let e : to_of new + (k - to_of new) ≡ k = omega arith in
-      get_or-append_right (take (from_of new) before) (data_of new ++ drop (to_of new) before) (from_of new) k 0 front_length
-      (omega (arith, some))
-      ∙ get_or-append_right (data_of new) (drop (to_of new) before) (to_of new - from_of new) (k - from_of new) 0 data_length
-      (omega (arith, some))
-      ∙ get_or-drop (to_of new) before (k - from_of new - (to_of new - from_of new)) 0
-      ∙ ap (λ (j : ℕ). get_or before j 0) (omega (arith, some))
-      ∙ get_or-map-below (byte_at frames) end k high
-      ∙ sym (byte_at_other frames new k there)
 
   pub filled_push : take (from_of new) (map (byte_at frames) (places 0 end))
       ++ (data_of new ++ drop (to_of new) (map (byte_at frames) (places 0 end)))
       ≡ map (byte_at (frames ++ new ∷ [])) (places 0 end)
-  unfolding before
   filled_push =
-      same_number_lists (written new before) (map (byte_at (frames ++ new ∷ [])) (places 0 end))
-      (length-written ∙ sym (length-map-places (byte_at (frames ++ new ∷ [])) 0 end))
-      (λ k h. at k (omega (arith, length-written))
-      ∙ sym (get_or-map-below (byte_at (frames ++ new ∷ [])) end k (omega (arith, length-written))))
+      same_number_lists (take (from_of new) before ++ (data_of new ++ drop (to_of new) before))
+      (map (byte_at (frames ++ new ∷ [])) (places 0 end))
+      (same ∙ long ∙ sym (length-map-places (byte_at (frames ++ new ∷ [])) 0 end))
+      (λ k h.
+      let below : k < end = omega (arith, same, long) in
+      get_or-spliced before (data_of new) (from_of new) (to_of new) order reach bytes (byte_at (frames ++ new ∷ []))
+      (λ j low. get_or-map-below (byte_at frames) end j (omega (arith, order))
+      ∙ sym (byte_at_other frames new j (grind (arith, nat_tests))))
+      (λ j low high.
+      let here : covers new j ≡ true = grind (arith, nat_tests) in
+      sym (byte_at_new frames new j (last_alone frames new j held here) here))
+      (λ j low high. get_or-map-below (byte_at frames) end j (omega (arith, long))
+      ∙ sym (byte_at_other frames new j (grind (arith, nat_tests))))
+      k (omega (arith, long)) ∙ sym (get_or-map-below (byte_at (frames ++ new ∷ [])) end k below))
     where
-      at : (k : ℕ) → k < end → get_or (written new before) k 0 ≡ byte_at (frames ++ new ∷ []) k
-      at k h = elim (cases_lt k (from_of new)) [
-        | inl low ↦ at_front k low
-        | inr high ↦ elim (cases_lt k (to_of new)) [ inl inside ↦ at_data k high inside | inr above ↦ at_back k above h ]
-      ]
+      taken : takes_part new ≡ true
+      taken = last_taken frames new held
+
+      order : from_of new ≤ to_of new
+      order = let some = (has_data new taken).0 in omega arith
+
+      long : length (map (byte_at frames) (places 0 end)) ≡ end
+      long = length-map-places (byte_at frames) 0 end
+
+      reach : to_of new ≤ length (map (byte_at frames) (places 0 end))
+      reach = omega (arith, long)
+
+      bytes : length (data_of new) ≡ to_of new - from_of new
+      bytes = length-data_of new taken
+
+      same : length (take (from_of new) before ++ (data_of new ++ drop (to_of new) before)) ≡ length before
+      same = length-spliced before (data_of new) (from_of new) (to_of new) order reach bytes
 
 -- the same, as a step through some frames
 pub fill_more : (frames : List Frame) (i : ℕ) (frame : Frame) (end : ℕ) → AreHeld frames → to_of frame ≤ end → i < length frames

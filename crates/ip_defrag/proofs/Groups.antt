@@ -90,7 +90,7 @@ opened_filter keep name (frame ∷ held) is =
 abbrev pub by_group : (Name → Bool) → Group → Bool
 by_group keep group = keep group.name
 
-kept_groups : (keep : Name → Bool) (held : List Frame) (names : List Name)
+pub kept_groups : (keep : Name → Bool) (held : List Frame) (names : List Name)
     → map (group_of (filter (by_name keep) held)) (filter keep names) ≡ filter (by_group keep) (map (group_of held) names)
 kept_groups keep held [] = refl
 kept_groups keep held (name ∷ names) =

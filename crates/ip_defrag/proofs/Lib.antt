@@ -11,5 +11,6 @@ pub mod Passed
 pub mod Places
 pub mod Pushed
 pub mod Rows
+pub mod Spliced
 pub mod Taken
 pub mod Walks

@@ -18,6 +18,7 @@ use Rattle.ip_defrag.specs.Marks.{AreMarked, AreMarks, holder, marked, own_marks
 use Rattle.ip_defrag.specs.declared.marks.Marks.{Marks}
 use Rattle.ip_defrag.proofs.Cases.{by_cases}
 use Rattle.ip_defrag.proofs.Kept.{reach_push}
+use Rattle.ip_defrag.proofs.Spliced.{get_or-spliced, length-spliced}
 use Rattle.ip_defrag.proofs.Filled.{held_take, last_alone}
 
 -- a unit and its first place
@@ -105,82 +106,36 @@ marks_none = record { each = λ unit within. absurd (omega (arith, within)); all
 pub length-marked : (marks : List ℕ) (first last number : ℕ) → first ≤ last → last ≤ length marks
     → length (marked first last number marks) ≡ length marks
 length-marked marks first last number order within =
-    let front = length-take-le first marks (omega (arith, order, within)) in
-    let own = length-replicate {A = ℕ} (last - first) number in
-    let rest = length-drop last marks in
-    let all = length-append (take first marks) (replicate (last - first) number ++ drop last marks) in
-    let two = length-append (replicate (last - first) number) (drop last marks) in
-    omega (arith, front, own, rest, all, two, order, within)
+    let count = length-replicate {A = ℕ} (last - first) number in
+    length-spliced marks (replicate (last - first) number) first last order within count
 
 pub marks_push : (marks : List ℕ) (frames : List Frame) (new : Frame) (first last : ℕ) → AreMarks marks frames
     → AreHeld (frames ++ new ∷ [])
     → 8 * first ≡ from_of new → from_of new < to_of new → to_of new ≤ 8 * last → 8 * last < to_of new + 8 → last ≤ length marks
     → AreMarks (marked first last (length frames + 1) marks) (frames ++ new ∷ [])
-marks_push marks frames new first last are held begins some ends tight within = record { each = each; all = all }
-  where
-    number : ℕ
-    number = length frames + 1
-
-    order : first ≤ last
-    order = omega (arith, begins, some, ends)
-
-    same : length (marked first last (length frames + 1) marks) ≡ length marks
-    same = length-marked marks first last (length frames + 1) order within
-
-    all : reach_of (frames ++ new ∷ []) ≤ 8 * length (marked first last (length frames + 1) marks)
-    all = let reach = reach_push frames new in let before = are.all in omega (arith, reach, before, same, ends, within)
-
-    front : length (take first marks) ≡ first
-    front = length-take-le first marks (omega (arith, order, within))
-
-    own : length (replicate {A = ℕ} (last - first) (length frames + 1)) ≡ last - first
-    own = length-replicate {A = ℕ} (last - first) (length frames + 1)
-
-    at_front : (unit : ℕ) → unit < first → get_or (marked first last (length frames + 1) marks) unit 0
-        ≡ holder 0 (frames ++ new ∷ []) (8 * unit)
-    at_front unit h =
-        let there : covers new (8 * unit) ≡ false = grind (arith, nat_tests) in
-        get_or_append_left (take first marks) (replicate (last - first) (length frames + 1) ++ drop last marks) 0 unit
-        (omega (arith, front, h))
-        ∙ get_or-take first marks unit 0 h
-        ∙ are.each unit (omega (arith, order, within, h))
-        ∙ sym (holder_other 0 frames new (8 * unit) there)
-
-    at_own : (unit : ℕ) → first ≤ unit → unit < last
-        → get_or (marked first last (length frames + 1) marks) unit 0 ≡ holder 0 (frames ++ new ∷ []) (8 * unit)
-    at_own unit low high =
-        let here : covers new (8 * unit) ≡ true = grind (arith, nat_tests) in
-        let whole : 0 + length frames + 1 ≡ length frames + 1 = omega arith in
-        get_or-append_right (take first marks) (replicate (last - first) (length frames + 1) ++ drop last marks) first
-        unit 0 front low
-        ∙ get_or_append_left (replicate (last - first) (length frames + 1)) (drop last marks) 0 (unit - first)
-        (omega (arith, own, low, high))
-        ∙ get_or-replicate (last - first) (unit - first) (length frames + 1) 0 (omega (arith, low, high))
-        ∙ sym (holder_new 0 frames new (8 * unit) (last_alone frames new (8 * unit) held here) here ∙ whole)
-
-    at_back : (unit : ℕ) → last ≤ unit → unit < length marks
-        → get_or (marked first last (length frames + 1) marks) unit 0 ≡ holder 0 (frames ++ new ∷ []) (8 * unit)
-    at_back unit low high =
-        let there : covers new (8 * unit) ≡ false = grind (arith, nat_tests) in
-        let place : last + (unit - first - (last - first)) ≡ unit = omega (arith, order, low) in
-        get_or-append_right (take first marks) (replicate (last - first) (length frames + 1) ++ drop last marks) first unit 0
-        front (omega (arith, order, low))
-        ∙ get_or-append_right (replicate (last - first) (length frames + 1)) (drop last marks) (last - first) (unit - first) 0
-        own (omega (arith, order, low))
-        ∙ get_or-drop last marks (unit - first - (last - first)) 0
-        ∙ ap (λ (j : ℕ). get_or marks j 0) place
-        ∙ are.each unit high
-        ∙ sym (holder_other 0 frames new (8 * unit) there)
-
-    each : (unit : ℕ) → unit < length (marked first last (length frames + 1) marks)
-        → get_or (marked first last (length frames + 1) marks) unit 0 ≡ holder 0 (frames ++ new ∷ []) (8 * unit)
-    each unit h =
-        elim (cases_lt unit first) [
-          | inl before ↦ at_front unit before
-          | inr after ↦
-              elim (cases_lt unit last)
-              [ inl inside ↦ at_own unit after inside | inr behind ↦ at_back unit behind (omega (arith, h, same)) ]
-        ]
+marks_push marks frames new first last are held begins some ends tight within =
+    let order : first ≤ last = omega (arith, begins, some, ends) in
+    let fits = length-replicate {A = ℕ} (last - first) (length frames + 1) in
+    let same = length-marked marks first last (length frames + 1) order within in
+    let reach = reach_push frames new in
+    let before = are.all in
+    record {
+      each = λ unit h. get_or-spliced marks (replicate (last - first) (length frames + 1)) first last order within fits
+          (λ k. holder 0 (frames ++ new ∷ []) (8 * k))
+          (λ k low.
+          let there : covers new (8 * k) ≡ false = grind (arith, nat_tests) in
+          are.each k (omega (arith, order, within)) ∙ sym (holder_other 0 frames new (8 * k) there))
+          (λ k low high.
+          let here : covers new (8 * k) ≡ true = grind (arith, nat_tests) in
+          let whole : 0 + length frames + 1 ≡ length frames + 1 = omega arith in
+          get_or-replicate (last - first) (k - first) (length frames + 1) 0 (omega (arith, low, high))
+          ∙ sym (holder_new 0 frames new (8 * k) (last_alone frames new (8 * k) held here) here ∙ whole))
+          (λ k low high.
+          let there : covers new (8 * k) ≡ false = grind (arith, nat_tests) in
+          are.each k high ∙ sym (holder_other 0 frames new (8 * k) there))
+          unit (omega (arith, h, same));
+      all = omega (arith, reach, before, same, ends, within);
+    }
 
 -- what is found among some marks
 record IsFound (marks : List ℕ) (mark : ℕ) : Type 0 where

@@ -8,14 +8,15 @@ use Rattle.std.proofs.lemmas.List.Filters.{length-filter_both}
 use Rattle.std.proofs.lemmas.List.Folds.{list_any_at}
 use Rattle.std.proofs.lemmas.List.Sums.{sum_by-cons}
 use Rattle.std.proofs.lemmas.Map.Views.{any-filter_same}
-use Rattle.std.proofs.lemmas.Bool.{or_parts, or_from, or_left, or_right, both_ways, not-true}
+use Rattle.std.proofs.lemmas.Bool.{or_parts, or_from, or_left, or_right, both_ways}
 use Rattle.frame_view.specs.declared.frames.Frame.{Frame}
 use Rattle.ip_defrag.specs.Fragments.{name_of}
 use Rattle.ip_defrag.specs.Fold.{same_name, is_named, of_name, without, names_of, opened_at}
 use Rattle.ip_defrag.specs.Grouped.{Group, group_of, groups, has_name, with_frame, updated, opened_by, total}
 use Rattle.ip_defrag.specs.declared.names.Name.{Name}
 use Rattle.ip_defrag.proofs.Cases.{by_cases}
-use Rattle.ip_defrag.proofs.Groups.{same_name_refl, same_name_is, same_name_sym, differs, by_group, groups_filter}
+use Rattle.ip_defrag.proofs.Groups.{by_group, by_name, differs}
+use Rattle.ip_defrag.proofs.Groups.{kept_groups, names_filter, same_name_is, same_name_refl, same_name_sym}
 
 same_names : (a b : Name) → same_name a b ≡ false → same_name b a ≡ false
 same_names a b e = same_name_sym b a ∙ e
@@ -267,27 +268,17 @@ set_is (group ∷ some) (suc at) d new distinct h named =
     ap (λ (gs : List Group). group ∷ gs) (set_is some at d new distinct.1 below named) ∙ sym (simp here)
 
 -- the frames of all groups are all frames
-later_group : (frame : Frame) (held : List Frame) (name : Name) → differs (name_of frame) name ≡ true
-    → group_of (frame ∷ held) name ≡ group_of held name
-later_group frame held name other =
-    let not_here : same_name (name_of frame) name ≡ false = same_names _ _ (not-true _ other) in
-    simp not_here
-
-later_groups : (frame : Frame) (held : List Frame) (names : List Name)
-    → map (group_of (frame ∷ held)) (filter (differs (name_of frame)) names)
-    ≡ filter (by_group (differs (name_of frame))) (map (group_of held) names)
-later_groups frame held [] = refl
-later_groups frame held (name ∷ names) =
-    let rest = later_groups frame held names in
-    by_cases (differs (name_of frame) name) (λ e. let here = later_group frame held name e in simp e (cc (here, rest)))
-    (λ e. simp e rest)
-
 pub groups-cons : (frame : Frame) (held : List Frame)
     → groups (frame ∷ held) ≡ group_of (frame ∷ held) (name_of frame) ∷ groups (without (name_of frame) held)
 unfolding groups
 groups-cons frame held =
-    ap (λ (gs : List Group). group_of (frame ∷ held) (name_of frame) ∷ gs)
-    (later_groups frame held (names_of held) ∙ sym (groups_filter (differs (name_of frame)) held))
+    let name : Name = name_of frame in
+    let here : filter (by_name (differs name)) (frame ∷ held) ≡ without name held = simp (same_name_refl name) in
+    ap (λ (gs : List Group). group_of (frame ∷ held) name ∷ gs)
+    (sym (filter-map (group_of (frame ∷ held)) (by_group (differs name)) (names_of held))
+    ∙ sym (kept_groups (differs name) (frame ∷ held) (names_of held))
+    ∙ ap (λ (hs : List Frame). map (group_of hs) (filter (differs name) (names_of held))) here
+    ∙ ap (map (group_of (without name held))) (sym (names_filter (differs name) held)))
 
 total-cons : (group : Group) (some : List Group) → total (group ∷ some) ≡ length group.fragments + total some
 unfolding total

@@ -1,5 +1,5 @@
 -- The count of bytes decides.
-use Rattle.std.proofs.Common.{◌≡◌, arith, ℕ, Bool, sym, ap, ◌∙◌, find, Some, None, option_map, option_copied, List, cond}
+use Rattle.std.proofs.Common.{◌≡◌, arith, ℕ, sym, ap, ◌∙◌, find, Some, option_copied, List}
 use Rattle.std.proofs.lemmas.Bool.{ne_eqb, eq-eqb}
 use Rattle.frame_view.specs.declared.frames.Frame.{Frame}
 use Rattle.ip_defrag.specs.Datagrams.{is_first, datagram_from, bytes_from, framed}
@@ -13,10 +13,7 @@ returns-in_default c = sym (unended c.args.fragments.now c.args.newest.now c.arg
 pub returns-then-extent-end : goal.returns-then-extent-end
 returns-then-extent-end c =
     let out = counted c.args.fragments.now c.args.newest.now c.args.extent c.in-Some.end c.requires c.in-Some.is in
-    sym (out ∙ ap
-    (λ (b : Bool). cond b
-    (option_map (λ (first : Frame). datagram_from first c.in-Some.end c.args.fragments.now c.args.newest.now)
-    (find is_first c.args.fragments.now)) None) (ne_eqb _ _ c.if-extent-end.true))
+    sym (out ∙ simp (ne_eqb c.args.extent.filled c.in-Some.end c.if-extent-end.true))
 
 pub whole_bytes-requires-clause-within : goal.whole_bytes-requires-clause-within
 whole_bytes-requires-clause-within c = kept_within c.args.fragments.now c.args.extent c.in-Some.end c.requires c.in-Some.is
@@ -37,11 +34,6 @@ returns c =
     let out = counted c.args.fragments.now c.args.newest.now c.args.extent c.in-Some.end c.requires c.in-Some.is in
     let first : find is_first c.args.fragments.now ≡ Some c.in-Some-first.first.now =
     sym c.first.ensures ∙ ap option_copied c.in-Some-first.is in
-    let all =
-    ap (λ (b : Bool). cond b
-    (option_map (λ (first : Frame). datagram_from first c.in-Some.end c.args.fragments.now c.args.newest.now)
-    (find is_first c.args.fragments.now)) None) (eq-eqb _ _ c.if-extent-end.false) in
     ap (λ (f : Frame). Some f)
     (c.framed.ensures ∙ made _ _ _ _ _ _ _ c.frame.ensures c.frame-2.ensures c.in_ok-bytes.ensures.bytes)
-    ∙ sym (out ∙ all
-    ∙ ap (option_map (λ (first : Frame). datagram_from first c.in-Some.end c.args.fragments.now c.args.newest.now)) first)
+    ∙ sym (out ∙ simp (eq-eqb c.args.extent.filled c.in-Some.end c.if-extent-end.false, first))
