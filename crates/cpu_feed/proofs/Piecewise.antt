@@ -140,36 +140,33 @@ pub piece_taken : (number : ℕ) (first now : Option SourceSeen) (old new : Sour
     (waiting more kept : List Frame) (damage : Option CaptureError) → AreTooMany → IsTheEnd → IsUncut
     → IsFed number first now bytes ended fed given before waiting → now ≡ Some old → ended ≡ None
     → length (frames_of number bytes) ≤ fed
-    → GavePiece old new took → length took ≤ 65536 → piece ≡ took → grown ≡ bytes ++ took
+    → GavePiece old new took → piece ≡ took → length piece ≤ 65536 → grown ≡ bytes ++ piece
     → ((cpu : ℕ) (fed : List ℕ) → Represents cpu before fed → Decodes cpu fed piece decoder more damage) → kept ≡ more
     → after ≡ ended_by damage
     → IsFed number first (Some new) grown after fed (given + length piece) decoder kept
 piece_taken number first now old new bytes grown took piece ended after fed given before decoder waiting more kept damage many
-    the_end uncut h there unended all took_is small same grown_is decodes kept_is after_is =
+    the_end uncut h there unended all took_is same short grown_is decodes kept_is after_is =
     let P : Option SourceSeen → Option CpuEnd → Type 0 = λ n e. IsFed number first n bytes e fed given before waiting in
     let g : IsFed number first (Some old) bytes None fed given before waiting =
     subst (λ (e : Option CpuEnd). P (Some old) e) unended (subst (λ (n : Option SourceSeen). P n ended) there h) in
     let taken : GavePiece old new piece = subst (λ (p : List ℕ). GavePiece old new p) (sym same) took_is in
-    let short : length piece ≤ 65536 = subst (λ (p : List ℕ). length p ≤ 65536) (sym same) small in
     let next = piece_more number first old new bytes piece fed given before decoder waiting more damage many the_end uncut g all
     taken short decodes in
     let Q : List ℕ → Option CpuEnd → List Frame → Type 0 =
     λ b e w. IsFed number first (Some new) b e fed (given + length piece) decoder w in
     subst (λ (w : List Frame). Q grown after w) (sym kept_is)
     (subst (λ (e : Option CpuEnd). Q grown e more) (sym after_is)
-    (subst (λ (b : List ℕ). Q b (ended_by damage) more) (sym (grown_is ∙ ap (λ (p : List ℕ). bytes ++ p) (sym same))) next))
+    (subst (λ (b : List ℕ). Q b (ended_by damage) more) (sym grown_is) next))
 
 -- the frames that are new
-pub piece_frames : (number : ℕ) (first now : Option SourceSeen) (bytes grown took piece : List ℕ) (ended : Option CpuEnd)
+pub piece_frames : (number : ℕ) (first now : Option SourceSeen) (bytes grown piece : List ℕ) (ended : Option CpuEnd)
     (fed given : ℕ) (before decoder : DecoderValue)
     (waiting more : List Frame) (damage : Option CaptureError) → IsFed number first now bytes ended fed given before waiting
-    → piece ≡ took → grown ≡ bytes ++ took
+    → grown ≡ bytes ++ piece
     → ((cpu : ℕ) (fed : List ℕ) → Represents cpu before fed → Decodes cpu fed piece decoder more damage)
     → frames_of number grown ≡ frames_of number bytes ++ more
-piece_frames number first now bytes grown took piece ended fed given before decoder waiting more damage h same
-    grown_is decodes =
-    let one : Decodes number bytes piece decoder more damage = decodes number bytes h.represents in
-    ap (λ (b : List ℕ). frames_of number b) (grown_is ∙ ap (λ (p : List ℕ). bytes ++ p) (sym same)) ∙ one.frames
+piece_frames number first now bytes grown piece ended fed given before decoder waiting more damage h grown_is decodes =
+    ap (λ (b : List ℕ). frames_of number b) grown_is ∙ (decodes number bytes h.represents).frames
 
 -- ---- what all frames are
 
@@ -229,13 +226,11 @@ lower None None many few e more small = omega (arith, more, small)
 lower (Some end) None many few e more small = omega (arith, small)
 
 -- a piece of a byte or more leaves less
-pub reads_less : AreTooMany → (cpu now : Feeding) (grown took piece : List ℕ) (after : Option CpuEnd) → cpu ≡ now
-    → cpu.ended ≡ None
-    → damage_of cpu.bytes ≡ None → piece ≡ took → false ≡ (length piece == 0) → grown ≡ cpu.bytes ++ took
+pub reads_less : AreTooMany → (cpu now : Feeding) (grown piece : List ℕ) (after : Option CpuEnd) → cpu ≡ now → cpu.ended ≡ None
+    → damage_of cpu.bytes ≡ None → false ≡ (length piece == 0) → grown ≡ cpu.bytes ++ piece
     → (if is_some after then 0 else 33554433 - length grown) < unread now
-reads_less many cpu now grown took piece after is unended sound same some grown_is =
-    let longer = ap (λ (b : List ℕ). length b) (grown_is ∙ ap (λ (p : List ℕ). cpu.bytes ++ p) (sym same))
-    ∙ length-append cpu.bytes piece in
+reads_less many cpu now grown piece after is unended sound some grown_is =
+    let longer = ap (λ (b : List ℕ). length b) grown_is ∙ length-append cpu.bytes piece in
     subst (λ (old : Feeding). (if is_some after then 0 else 33554433 - length grown) < unread old) is
     (lower after cpu.ended (length grown) (length cpu.bytes) unended (omega (arith, longer, some_byte piece some))
     (is_small cpu.bytes sound (many cpu.bytes)))

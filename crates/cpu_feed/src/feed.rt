@@ -27,7 +27,6 @@ ghost use Rattle.fanout_group.specs.Rules.{Rules};
 ghost use Rattle.frame_view.specs.declared.frames.Frame.{Frame};
 
 use crate::fed::Fed;
-use crate::trace::Trace;
 use capture_file::{
     CpuEnd, Decoder, an_empty_capture_has_no_frames, damage_is_the_end, frames_are_captured,
     frames_are_few, frames_are_numbered, too_many_bytes_are_damage,
@@ -35,6 +34,7 @@ use capture_file::{
 use capture_reading::{Buffer, decode, end_at, ended_by};
 use fanout_group::{ArrivalRules, CpuLog, Group, Plan, ReceivePath};
 use frame_view::{Frame, Memory};
+use history::History;
 use std::alloc::Global;
 use std::collections::VecDeque;
 use std::marker::Model;
@@ -66,7 +66,7 @@ pub struct CpuFeed<S: Source> {
     /// The source as it was handed in. It takes no memory: only contracts read it.
     first: Snapshot<Option<S>>,
     /// The bytes that the source gave. They take no memory: only contracts read them.
-    trace: Trace,
+    trace: History<u8>,
 }
 
 impl<S: Source> Model for CpuFeed<S> {
@@ -78,7 +78,7 @@ impl<S: Source> Model for CpuFeed<S> {
     ghost view = { λ cpu. record {
       number = cpu.number;
       first = option_map S.seen cpu.first.value;
-      bytes = cpu.trace.bytes;
+      bytes = cpu.trace.items;
       ended = cpu.ended;
       fed = cpu.fed;
       path = cpu.path;
@@ -87,7 +87,7 @@ impl<S: Source> Model for CpuFeed<S> {
     ghost invariant = { λ cpu. IsKnown cpu.stuck cpu.number
         (option_map S.seen cpu.first.value)
         (option_map S.seen cpu.source)
-        cpu.trace.bytes cpu.ended cpu.fed cpu.given cpu.decoder cpu.waiting.items };
+        cpu.trace.items cpu.ended cpu.fed cpu.given cpu.decoder cpu.waiting.items };
 }
 
 impl<S: Source> CpuFeed<S> {
@@ -116,7 +116,7 @@ impl<S: Source> CpuFeed<S> {
             path: ReceivePath::new(alloc, plan),
             stuck: false,
             first,
-            trace: Trace::new(),
+            trace: History::new(),
         }
     }
 
@@ -172,7 +172,7 @@ impl<S: Source> CpuFeed<S> {
             self.stuck = true;
             return Err(Memory);
         };
-        self.trace = self.trace.after(buffer);
+        self.trace.extend(piece);
         self.given += piece.len() as u64;
         self.ended = ended_by(decoded.damage);
         self.waiting = VecDeque::from(decoded.frames.into_vec());

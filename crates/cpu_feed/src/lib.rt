@@ -6,7 +6,6 @@ mod arrival_rules;
 mod closed_cpus;
 mod fed;
 mod feed;
-mod trace;
 
 pub use arrival_rules::rules_at;
 pub use closed_cpus::{ClosedCpus, close_cpus};

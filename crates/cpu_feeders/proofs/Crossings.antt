@@ -9,7 +9,6 @@ use Rattle.history.proofs.history.History.TheSendSync as history
 use Rattle.capture_file.specs.contracts.decoder.Decoder as Decoder
 use Rattle.capture_reading.specs.contracts.buffer.Buffer as Buffer
 use Rattle.cpu_feed.specs.contracts.feed.CpuFeed as CpuFeed
-use Rattle.cpu_feed.specs.contracts.trace.Trace as Trace
 use Rattle.fanout_group.specs.contracts.receive_path.ReceivePath as ReceivePath
 use Rattle.frame_view.specs.contracts.frames.Frame as Frame
 use Rattle.ip_defrag.specs.contracts.datagrams.Datagram as Datagram
@@ -53,9 +52,6 @@ defrag_send = search (sendable, crosses, datagram_send, frame_send, history.the_
 pub path_send : IsSend ReceivePath.the_row
 path_send = search (sendable, crosses, defrag_send) depth 60 fits 20000
 
-trace_send : IsSend Trace.the_row
-trace_send = search (sendable, crosses) depth 40
-
 pub ring_send : IsSend MemberRing.the_row
 ring_send = search (
   sendable,
@@ -76,7 +72,7 @@ pub buffer_send : IsSend Buffer.the_row
 buffer_send = search (sendable, crosses) depth 40
 
 pub feed_send : (S : RattleType) (g : source.Ghosts S.Denot) → IsSend S → IsSend (CpuFeed.the_row S g)
-feed_send S g s = search (sendable, crosses, decoder_send, frame_send, path_send, trace_send) depth 60 fits 20000
+feed_send S g s = search (sendable, crosses, decoder_send, frame_send, path_send, history.the_send) depth 60 fits 20000
 
 pub timer_send : IsSend (Timer.the_field).row
 timer_send = search (sendable, crosses, member_seat_send) depth 60 fits 20000

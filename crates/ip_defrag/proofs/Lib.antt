@@ -13,4 +13,3 @@ pub mod Pushed
 pub mod Rows
 pub mod Spliced
 pub mod Taken
-pub mod Walks

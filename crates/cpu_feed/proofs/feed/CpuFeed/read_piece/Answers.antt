@@ -14,14 +14,14 @@ invariant_of-self-2 g c = known _ _ _ _ _ _ _ _ _ _ c.if-self.false (
     c.damage_is_the_end.ensures.uncut
     (c.self.invariant.whole c.if-self.false)
     (ap (option_map {T = g.row.S.Denot} {U = SourceSeen} g.S.Source.seen) c.in-Some.is) unended none
-    c.in-Ok.ensures.ok c.in-Ok.ensures.small c.piece-piece.ensures.piece c.after-self-inside.ensures
+    c.in-Ok.ensures.ok c.piece-piece.ensures.piece c.piece-piece.ensures.small c.extend.ensures
     c.in-Ok-decode.ensures.decodes (c.from.ensures.0 ∙ c.into_vec.ensures) c.ended_by-self-inside.ensures)
 
 pub returns-clause-read : goal.returns-clause-read
 returns-clause-read g c =
     let unended : c.self.inside.ended ≡ None = ap (λ (cpu : Feeding). cpu.ended) c.self.view_is ∙ c.requires.unended in
-    let frames = piece_frames _ _ _ _ _ _ _ _ _ _ _ _ _ _ _ (c.self.invariant.whole c.if-self.false) c.piece-piece.ensures.piece
-    c.after-self-inside.ensures c.in-Ok-decode.ensures.decodes in
+    let frames = piece_frames _ _ _ _ _ _ _ _ _ _ _ _ _ _ (c.self.invariant.whole c.if-self.false) c.extend.ensures
+    c.in-Ok-decode.ensures.decodes in
     read_more _ c.args.self.now _ _ _ c.self.view_is unended frames
 
 pub invariant_of-self-then-is_empty : goal.invariant_of-self-then-is_empty
@@ -36,7 +36,5 @@ invariant_of-self-then-is_empty g c = known _ _ _ _ _ _ _ _ _ _ c.if-self.false 
 pub returns-clause-less : goal.returns-clause-less
 returns-clause-less g c =
     let unended : c.self.inside.ended ≡ None = ap (λ (cpu : Feeding). cpu.ended) c.self.view_is ∙ c.requires.unended in
-    reads_less c.too_many_bytes_are_damage.ensures _ c.args.self.now _ _ c.piece-piece.result.now c.ended_by-self-inside.result
-    c.self.view_is unended
-    ((c.self.invariant.whole c.if-self.false).sound unended) c.piece-piece.ensures.piece c.if-is_empty.ensures
-    c.after-self-inside.ensures
+    reads_less c.too_many_bytes_are_damage.ensures _ c.args.self.now _ c.piece-piece.result.now c.ended_by-self-inside.result
+    c.self.view_is unended ((c.self.invariant.whole c.if-self.false).sound unended) c.if-is_empty.ensures c.extend.ensures
