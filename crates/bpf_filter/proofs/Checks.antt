@@ -103,25 +103,17 @@ all_fit at (i ∷ j ∷ code) h e =
 
 -- ---- the whole program
 
-too_many : (long : Bool) (x y : Result (List Insn) FilterError) → long ≡ true → (if long then x else y) ≡ x
-too_many true x y h = refl
-too_many false x y h = cc
-
-not_too_many : (long : Bool) (x y : Result (List Insn) FilterError) → long ≡ false → (if long then x else y) ≡ y
-not_too_many true x y h = cc
-not_too_many false x y h = refl
-
 pub program_of-large : (code : List Insn) → 4096 < length code → program_of code ≡ Err BadCount
 unfolding program_of
 program_of-large code h =
     let long : nat_lt 4096 (length code) ≡ true = grind arith in
-    too_many _ _ _ long
+    rw long refl
 
 pub program_of-small : (code : List Insn) → length code ≤ 4096 → program_of code ≡ program_after (first_fault 0 code) code
 unfolding program_of
 program_of-small code h =
     let short : nat_lt 4096 (length code) ≡ false = grind arith in
-    not_too_many _ _ _ short
+    rw short refl
 
 refuses_after : (error : FilterError) (fault : Option FilterError) (code : List Insn) → fault ≡ Some error
     → Refuses error (program_after fault code)
@@ -143,27 +135,25 @@ program_of-good code l h e = program_of-small code l ∙ ap (λ fault. program_a
 
 -- ---- what is known of a program that was accepted
 
-pub record Parts (fault : Option FilterError) (code : List Insn) : Type 0 where
-  pub none : fault ≡ None
-  pub ends : ends_with_return code ≡ true
+record Parts (code : List Insn) : Type 0 where
+  small : length code ≤ 4096
+  none : first_fault 0 code ≡ None
+  ends : ends_with_return code ≡ true
 
 ends_with : (ends : Bool) (code : List Insn)
     → ◌≡◌ {A = Result (List Insn) FilterError} (if ends then Ok code else Err NoReturn) (Ok code) → ends ≡ true
 ends_with true code h = refl
 ends_with false code h = cc
 
-parts_after : (fault : Option FilterError) (code : List Insn) → program_after fault code ≡ Ok code → Parts fault code
-parts_after None code h = record { none = refl; ends = ends_with (ends_with_return code) code h }
-parts_after (Some fault) code h = cc
-
-parts_of : (code : List Insn) → program_of code ≡ Ok code → Parts (first_fault 0 code) code
+parts_of : (code : List Insn) → program_of code ≡ Ok code → Parts code
 unfolding program_of
-parts_of code h = by_test (nat_lt 4096 (length code)) h
+parts_of code h = by_test (nat_lt 4096 (length code)) (first_fault 0 code) refl refl h
   where
-    by_test : (long : Bool) → ◌≡◌ {A = Result (List Insn) FilterError}
-        (if long then Err BadCount else program_after (first_fault 0 code) code) (Ok code) → Parts (first_fault 0 code) code
-    by_test true h = cc
-    by_test false h = parts_after (first_fault 0 code) code h
+    by_test : (long : Bool) (fault : Option FilterError) → nat_lt 4096 (length code) ≡ long → first_fault 0 code ≡ fault
+        → ◌≡◌ {A = Result (List Insn) FilterError} (if long then Err BadCount else program_after fault code) (Ok code) → Parts code
+    by_test true fault l f h = cc
+    by_test false None l f h = record { small = grind arith; none = f; ends = ends_with (ends_with_return code) code h }
+    by_test false (Some fault) l f h = cc
 
 pub accepted_fit : (code : List Insn) → program_of code ≡ Ok code → AllFit code
 accepted_fit code h =
@@ -178,11 +168,4 @@ pub accepted_some : (code : List Insn) → program_of code ≡ Ok code → 0 < l
 accepted_some code h = some_by_end code (parts_of code h).ends
 
 pub accepted_small : (code : List Insn) → program_of code ≡ Ok code → length code ≤ 4096
-unfolding program_of
-accepted_small code h = by_test (nat_lt 4096 (length code)) refl h
-  where
-    by_test : (long : Bool) → nat_lt 4096 (length code) ≡ long
-        → ◌≡◌ {A = Result (List Insn) FilterError} (if long then Err BadCount else program_after (first_fault 0 code) code)
-        (Ok code) → length code ≤ 4096
-    by_test true l h = cc
-    by_test false l h = grind arith
+accepted_small code h = (parts_of code h).small

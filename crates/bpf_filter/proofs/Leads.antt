@@ -114,154 +114,50 @@ to_word : (code : ℕ) (number : State → ℕ) → is_return code ≡ false
 to_word code number h = next_row code (λ i p s. GoesOn 0 (record s { memory = slice_set s.memory i.k (number s) })) h
     (λ behind i p s l. l)
 
+infixr 5 ◌⨾◌
+◌⨾◌ : {A B : Type 0} → A → B → A × B
+a ⨾ b = (a, b)
+
 -- the rows in the order of the table
 rows : AllByRecursion IsRow codes
 unfolding codes
-rows = (
-  to_a 0x00 (λ i p s. Some i.k) refl,
-  (
-    to_a 0x20 (λ i p s. absolute 4 i.k p) refl,
-    (
-      to_a 0x28 (λ i p s. absolute 2 i.k p) refl,
-      (
-        to_a 0x30 (λ i p s. absolute 1 i.k p) refl,
-        (
-          to_a 0x40 (λ i p s. number_at 4 (s.x + i.k) p.bytes) refl,
-          (
-            to_a 0x48 (λ i p s. number_at 2 (s.x + i.k) p.bytes) refl,
-            (
-              to_a 0x50 (λ i p s. number_at 1 (s.x + i.k) p.bytes) refl,
-              (
-                to_a 0x60 (λ i p s. Some (slice_index s.memory i.k)) refl,
-                (
-                  to_a 0x80 (λ i p s. Some p.wire) refl,
-                  (
-                    to_x 0x01 (λ i p s. Some i.k) refl,
-                    (
-                      to_x 0x61 (λ i p s. Some (slice_index s.memory i.k)) refl,
-                      (
-                        to_x 0x81 (λ i p s. Some p.wire) refl,
-                        (
-                          to_x 0xb1 (λ i p s. option_map header_length (number_at 1 i.k p.bytes)) refl,
-                          (
-                            to_word 0x02 (λ s. s.a) refl,
-                            (
-                              to_word 0x03 (λ s. s.x) refl,
-                              (
-                                to_a 0x84 (λ i p s. difference 0 s.a) refl,
-                                (
-                                  by_k 0x04 sum refl,
-                                  (
-                                    by_x 0x0c sum refl,
-                                    (
-                                      by_k 0x14 difference refl,
-                                      (
-                                        by_x 0x1c difference refl,
-                                        (
-                                          by_k 0x24 product refl,
-                                          (
-                                            by_x 0x2c product refl,
-                                            (
-                                              by_k 0x34 quotient refl,
-                                              (
-                                                by_x 0x3c quotient refl,
-                                                (
-                                                  by_k 0x44 bits_or refl,
-                                                  (
-                                                    by_x 0x4c bits_or refl,
-                                                    (
-                                                      by_k 0x54 bits_and refl,
-                                                      (
-                                                        by_x 0x5c bits_and refl,
-                                                        (
-                                                          by_k 0x64 left_shift refl,
-                                                          (
-                                                            by_x 0x6c left_shift refl,
-                                                            (
-                                                              by_k 0x74 right_shift refl,
-                                                              (
-                                                                by_x 0x7c right_shift refl,
-                                                                (
-                                                                  by_k 0x94 remainder refl,
-                                                                  (
-                                                                    by_x 0x9c remainder refl,
-                                                                    (
-                                                                      by_k 0xa4 bits_xor refl,
-                                                                      (
-                                                                        by_x 0xac bits_xor refl,
-                                                                        (
-                                                                          always,
-                                                                          (
-                                                                            branch_k 0x15 is_equal refl,
-                                                                            (
-                                                                              branch_x 0x1d is_equal refl,
-                                                                              (
-                                                                                branch_k 0x25 is_greater refl,
-                                                                                (
-                                                                                  branch_x 0x2d is_greater refl,
-                                                                                  (
-                                                                                    branch_k 0x35 is_at_least refl,
-                                                                                    (
-                                                                                      branch_x 0x3d is_at_least refl,
-                                                                                      (
-                                                                                        branch_k 0x45 shares_bit refl,
-                                                                                        (
-                                                                                          branch_x 0x4d shares_bit refl,
-                                                                                          (
-                                                                                            returns_k,
-                                                                                            (
-                                                                                              returns_a,
-                                                                                              (
-                                                                                                to_x 0x07 (λ i p s. Some s.a) refl,
-                                                                                                (to_a 0x87 (λ i p s. Some s.x) refl, tt),
-                                                                                              ),
-                                                                                            ),
-                                                                                          ),
-                                                                                        ),
-                                                                                      ),
-                                                                                    ),
-                                                                                  ),
-                                                                                ),
-                                                                              ),
-                                                                            ),
-                                                                          ),
-                                                                        ),
-                                                                      ),
-                                                                    ),
-                                                                  ),
-                                                                ),
-                                                              ),
-                                                            ),
-                                                          ),
-                                                        ),
-                                                      ),
-                                                    ),
-                                                  ),
-                                                ),
-                                              ),
-                                            ),
-                                          ),
-                                        ),
-                                      ),
-                                    ),
-                                  ),
-                                ),
-                              ),
-                            ),
-                          ),
-                        ),
-                      ),
-                    ),
-                  ),
-                ),
-              ),
-            ),
-          ),
-        ),
-      ),
-    ),
-  ),
-)
+rows =
+    to_a 0x00 (λ i p s. Some i.k) refl
+    ⨾ to_a 0x20 (λ i p s. absolute 4 i.k p) refl
+    ⨾ to_a 0x28 (λ i p s. absolute 2 i.k p) refl
+    ⨾ to_a 0x30 (λ i p s. absolute 1 i.k p) refl
+    ⨾ to_a 0x40 (λ i p s. number_at 4 (s.x + i.k) p.bytes) refl
+    ⨾ to_a 0x48 (λ i p s. number_at 2 (s.x + i.k) p.bytes) refl
+    ⨾ to_a 0x50 (λ i p s. number_at 1 (s.x + i.k) p.bytes) refl
+    ⨾ to_a 0x60 (λ i p s. Some (slice_index s.memory i.k)) refl
+    ⨾ to_a 0x80 (λ i p s. Some p.wire) refl
+    ⨾ to_x 0x01 (λ i p s. Some i.k) refl
+    ⨾ to_x 0x61 (λ i p s. Some (slice_index s.memory i.k)) refl
+    ⨾ to_x 0x81 (λ i p s. Some p.wire) refl
+    ⨾ to_x 0xb1 (λ i p s. option_map header_length (number_at 1 i.k p.bytes)) refl
+    ⨾ to_word 0x02 (λ s. s.a) refl
+    ⨾ to_word 0x03 (λ s. s.x) refl
+    ⨾ to_a 0x84 (λ i p s. difference 0 s.a) refl
+    ⨾ by_k 0x04 sum refl ⨾ by_x 0x0c sum refl
+    ⨾ by_k 0x14 difference refl ⨾ by_x 0x1c difference refl
+    ⨾ by_k 0x24 product refl ⨾ by_x 0x2c product refl
+    ⨾ by_k 0x34 quotient refl ⨾ by_x 0x3c quotient refl
+    ⨾ by_k 0x44 bits_or refl ⨾ by_x 0x4c bits_or refl
+    ⨾ by_k 0x54 bits_and refl ⨾ by_x 0x5c bits_and refl
+    ⨾ by_k 0x64 left_shift refl ⨾ by_x 0x6c left_shift refl
+    ⨾ by_k 0x74 right_shift refl ⨾ by_x 0x7c right_shift refl
+    ⨾ by_k 0x94 remainder refl ⨾ by_x 0x9c remainder refl
+    ⨾ by_k 0xa4 bits_xor refl ⨾ by_x 0xac bits_xor refl
+    ⨾ always
+    ⨾ branch_k 0x15 is_equal refl ⨾ branch_x 0x1d is_equal refl
+    ⨾ branch_k 0x25 is_greater refl ⨾ branch_x 0x2d is_greater refl
+    ⨾ branch_k 0x35 is_at_least refl ⨾ branch_x 0x3d is_at_least refl
+    ⨾ branch_k 0x45 shares_bit refl ⨾ branch_x 0x4d shares_bit refl
+    ⨾ returns_k
+    ⨾ returns_a
+    ⨾ to_x 0x07 (λ i p s. Some s.a) refl
+    ⨾ to_a 0x87 (λ i p s. Some s.x) refl
+    ⨾ tt
 
 by_row : (rows : List (ℕ × Effect)) (behind : ℕ) (i : Insn) (p : PacketFacts) (s : State) → AllByRecursion IsRow rows
     → Fits behind i

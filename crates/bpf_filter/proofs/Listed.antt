@@ -31,16 +31,11 @@ instruction_has_word : (words : List (List ℕ)) (i : Insn) → instruction_of w
 instruction_has_word [] i h = absurd (none-some i h)
 instruction_has_word (word ∷ words) i h = refl
 
-kept_line : (blank : Bool) (line : List ℕ) (more : List (List ℕ)) → blank ≡ false
-    → (if blank then [] else line ∷ more) ≡ line ∷ more
-kept_line true line more h = cc
-kept_line false line more h = refl
-
 -- lines that aren't all blank keep the first one
 without_blank_end-kept : (line : List ℕ) (more : List (List ℕ)) → are_blank (line ∷ more) ≡ false
     → without_blank_end (line ∷ more) ≡ line ∷ without_blank_end more
 unfolding without_blank_end
-without_blank_end-kept line more h = kept_line (are_blank (line ∷ more)) line (without_blank_end more) h
+without_blank_end-kept line more h = rw h refl
 
 without_blank_end-blank : (lines : List (List ℕ)) → are_blank lines ≡ true → without_blank_end lines ≡ []
 unfolding without_blank_end
@@ -126,26 +121,18 @@ listed_all text code number rest l h = sym l.same ∙ ap (with_front code) h ∙
 
 -- ---- the whole text
 
-chosen_first : (test : Bool) (x y : Result (List Insn) FilterError) → test ≡ true → (if test then x else y) ≡ x
-chosen_first true x y h = refl
-chosen_first false x y h = cc
-
-chosen_second : (test : Bool) (x y : Result (List Insn) FilterError) → test ≡ false → (if test then x else y) ≡ y
-chosen_second true x y h = cc
-chosen_second false x y h = refl
-
 pub instructions_of-large : (text : List ℕ) → 1048576 < length text → instructions_of text ≡ Err TooLarge
 unfolding instructions_of
 instructions_of-large text h =
     let large : nat_lt 1048576 (length text) ≡ true = grind arith in
-    chosen_first _ _ _ large
+    rw large refl
 
 instructions_of-small : (text : List ℕ) → length text ≤ 1048576
     → instructions_of text ≡ program_in (without_blank_end (lines_of text))
 unfolding instructions_of
 instructions_of-small text h =
     let small : nat_lt 1048576 (length text) ≡ false = grind arith in
-    chosen_second _ _ _ small
+    rw small refl
 
 pub instructions_of-blank : (text : List ℕ) → length text ≤ 1048576 → are_blank (lines_of text) ≡ true
     → instructions_of text ≡ Err BadCount
