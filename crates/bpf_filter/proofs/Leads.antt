@@ -1,15 +1,14 @@
 -- That each step of an accepted program leads to another of its instructions, or to a verdict.
 use Rattle.std.proofs.Common.{◌≡◌, ℕ, zero, suc, ◌+◌, ◌<◌, Bool, true, false, ◌&&◌, ◌||◌, List, [], ◌∷◌, length, refl, subst}
-use Rattle.std.proofs.Common.{ap, sym, ◌∙◌, arith, Option, None, Some}
-use Rattle.std.specs.Prelude.{◌==◌, nat_le, if◌then◌else◌, slice_index, slice_set}
+use Rattle.std.proofs.Common.{ap, sym, ◌∙◌, arith, true≢false, Option, None, Some}
+use Rattle.std.specs.Prelude.{◌==◌, nat_le, if◌then◌else◌}
 use Rattle.std.specs.List.{AllByRecursion}
 use Rattle.std.specs.Option.{option_map}
 use Rattle.std.proofs.lemmas.Bool.Decides.{Decides-eqb, nat_tests}
 use Rattle.bpf_filter.specs.declared.insn.Insn.{Insn}
-use Rattle.bpf_filter.specs.Codes.{State, Next, Answers, GoesOn, Effect, absolute, bits_and, bits_or, bits_xor, codes}
-use Rattle.bpf_filter.specs.Codes.{difference, effect, effect_from, header_length, is_at_least, is_equal, is_greater}
-use Rattle.bpf_filter.specs.Codes.{left_shift, load_a, load_x, number_at, product, quotient, remainder, right_shift, shares_bit}
-use Rattle.bpf_filter.specs.Codes.{sum}
+use Rattle.bpf_filter.specs.Codes.{State, Next, Answers, GoesOn, Effect, absolute, codes}
+use Rattle.bpf_filter.specs.Codes.{effect, effect_from, header_length, is_at_least, is_equal, is_greater}
+use Rattle.bpf_filter.specs.Codes.{left_shift, load_a, load_x, number_at, quotient, remainder, right_shift, shares_bit}
 use Rattle.bpf_filter.specs.Programs.{IsRunnable, has_bad_jump, is_among}
 use Rattle.bpf_filter.specs.PacketFacts.{PacketFacts}
 use Rattle.bpf_filter.specs.Tables.{item_at}
@@ -37,16 +36,13 @@ Leads behind (GoesOn skip s) = skip < behind
 abbrev IsRow : ℕ × Effect → Type 0
 IsRow row = (behind : ℕ) (i : Insn) (p : PacketFacts) (s : State) → row.0 ≡ i.code → Fits behind i → Leads behind (row.1 i p s)
 
--- an instruction that isn't a return isn't the last one
-some_behind : (code behind : ℕ) (i : Insn) → is_return code ≡ false → code ≡ i.code → Fits behind i → 0 < behind
-some_behind code zero i h e f =
-    let is : is_return code ≡ true = ap is_return e ∙ f.last refl in
-    cc
-some_behind code (suc behind) i h e f = omega arith
-
-next_row : (code : ℕ) (does : Effect) → is_return code ≡ false
-    → ((behind : ℕ) (i : Insn) (p : PacketFacts) (s : State) → 0 < behind → Leads behind (does i p s)) → IsRow (code, does)
-next_row code does h leads behind i p s e f = leads behind i p s (some_behind code behind i h e f)
+-- an instruction that isn't a return isn't the last one, so it may go on with the next
+next : {code : ℕ} → is_return code ≡ false → (behind : ℕ) (i : Insn) (p : PacketFacts) (s : State) → code ≡ i.code
+    → Fits behind i → 0 < behind
+next h zero i p s e f =
+    let is : is_return i.code ≡ true = f.last refl in
+    absurd (true≢false (sym is ∙ ap is_return (sym e) ∙ h))
+next h (suc behind) i p s e f = omega arith
 
 load_a_leads : (number : Option ℕ) (behind : ℕ) (s : State) → 0 < behind → Leads behind (load_a number s)
 load_a_leads None behind s h = tt
@@ -56,21 +52,13 @@ load_x_leads : (number : Option ℕ) (behind : ℕ) (s : State) → 0 < behind �
 load_x_leads None behind s h = tt
 load_x_leads (Some number) behind s h = h
 
-to_a : (code : ℕ) (number : Insn → PacketFacts → State → Option ℕ) → is_return code ≡ false
+to_a : {code : ℕ} (number : Insn → PacketFacts → State → Option ℕ) → is_return code ≡ false
     → IsRow (code, λ i p s. load_a (number i p s) s)
-to_a code number h =
-    next_row code (λ i p s. load_a (number i p s) s) h (λ behind i p s l. load_a_leads (number i p s) behind s l)
+to_a number h behind i p s e f = load_a_leads (number i p s) behind s (next h behind i p s e f)
 
-to_x : (code : ℕ) (number : Insn → PacketFacts → State → Option ℕ) → is_return code ≡ false
+to_x : {code : ℕ} (number : Insn → PacketFacts → State → Option ℕ) → is_return code ≡ false
     → IsRow (code, λ i p s. load_x (number i p s) s)
-to_x code number h =
-    next_row code (λ i p s. load_x (number i p s) s) h (λ behind i p s l. load_x_leads (number i p s) behind s l)
-
-by_k : (code : ℕ) (operation : ℕ → ℕ → Option ℕ) → is_return code ≡ false → IsRow (code, λ i p s. load_a (operation s.a i.k) s)
-by_k code operation h = to_a code (λ i p s. operation s.a i.k) h
-
-by_x : (code : ℕ) (operation : ℕ → ℕ → Option ℕ) → is_return code ≡ false → IsRow (code, λ i p s. load_a (operation s.a s.x) s)
-by_x code operation h = to_a code (λ i p s. operation s.a s.x) h
+to_x number h behind i p s e f = load_x_leads (number i p s) behind s (next h behind i p s e f)
 
 always_inside : (behind k : ℕ) (always branches : Bool) → always ≡ true
     → ((always && nat_le behind k) || branches) ≡ false → k < behind
@@ -84,35 +72,19 @@ one_inside : (behind jt jf : ℕ) (holds : Bool) → (jt < behind) × (jf < behi
 one_inside behind jt jf true h = h.0
 one_inside behind jt jf false h = h.1
 
-branch : (code : ℕ) (holds : Insn → State → Bool) → is_branch code ≡ true
+branch : {code : ℕ} (holds : Insn → State → Bool) → is_branch code ≡ true
     → IsRow (code, λ i p s. GoesOn (if holds i s then i.jt else i.jf) s)
-branch code holds b behind i p s e f =
+branch holds b behind i p s e f =
     let branches : is_branch i.code ≡ true = ap is_branch (sym e) ∙ b in
     one_inside behind i.jt i.jf (holds i s) (both_inside behind i.jt i.jf _ _ branches f.jump)
-
-branch_k : (code : ℕ) (test : ℕ → ℕ → Bool) → is_branch code ≡ true
-    → IsRow (code, λ i p s. GoesOn (if test s.a i.k then i.jt else i.jf) s)
-branch_k code test b = branch code (λ i s. test s.a i.k) b
-
-branch_x : (code : ℕ) (test : ℕ → ℕ → Bool) → is_branch code ≡ true
-    → IsRow (code, λ i p s. GoesOn (if test s.a s.x then i.jt else i.jf) s)
-branch_x code test b = branch code (λ i s. test s.a s.x) b
 
 always : IsRow (0x05, λ i p s. GoesOn i.k s)
 always behind i p s e f =
     let is : (i.code == 0x05) ≡ true = ap (λ code. code == 0x05) (sym e) in
     always_inside behind i.k _ _ is f.jump
 
-returns_k : IsRow (0x06, λ i p s. Answers i.k)
-returns_k behind i p s e f = tt
-
-returns_a : IsRow (0x16, λ i p s. Answers s.a)
-returns_a behind i p s e f = tt
-
-to_word : (code : ℕ) (number : State → ℕ) → is_return code ≡ false
-    → IsRow (code, λ i p s. GoesOn 0 (record s { memory = slice_set s.memory i.k (number s) }))
-to_word code number h = next_row code (λ i p s. GoesOn 0 (record s { memory = slice_set s.memory i.k (number s) })) h
-    (λ behind i p s l. l)
+returns : {code : ℕ} → (behind : ℕ) (i : Insn) (p : PacketFacts) (s : State) → code ≡ i.code → Fits behind i → Unit {0}
+returns behind i p s e f = tt
 
 infixr 5 ◌⨾◌
 ◌⨾◌ : {A B : Type 0} → A → B → A × B
@@ -122,42 +94,24 @@ a ⨾ b = (a, b)
 rows : AllByRecursion IsRow codes
 unfolding codes
 rows =
-    to_a 0x00 (λ i p s. Some i.k) refl
-    ⨾ to_a 0x20 (λ i p s. absolute 4 i.k p) refl
-    ⨾ to_a 0x28 (λ i p s. absolute 2 i.k p) refl
-    ⨾ to_a 0x30 (λ i p s. absolute 1 i.k p) refl
-    ⨾ to_a 0x40 (λ i p s. number_at 4 (s.x + i.k) p.bytes) refl
-    ⨾ to_a 0x48 (λ i p s. number_at 2 (s.x + i.k) p.bytes) refl
-    ⨾ to_a 0x50 (λ i p s. number_at 1 (s.x + i.k) p.bytes) refl
-    ⨾ to_a 0x60 (λ i p s. Some (slice_index s.memory i.k)) refl
-    ⨾ to_a 0x80 (λ i p s. Some p.wire) refl
-    ⨾ to_x 0x01 (λ i p s. Some i.k) refl
-    ⨾ to_x 0x61 (λ i p s. Some (slice_index s.memory i.k)) refl
-    ⨾ to_x 0x81 (λ i p s. Some p.wire) refl
-    ⨾ to_x 0xb1 (λ i p s. option_map header_length (number_at 1 i.k p.bytes)) refl
-    ⨾ to_word 0x02 (λ s. s.a) refl
-    ⨾ to_word 0x03 (λ s. s.x) refl
-    ⨾ to_a 0x84 (λ i p s. difference 0 s.a) refl
-    ⨾ by_k 0x04 sum refl ⨾ by_x 0x0c sum refl
-    ⨾ by_k 0x14 difference refl ⨾ by_x 0x1c difference refl
-    ⨾ by_k 0x24 product refl ⨾ by_x 0x2c product refl
-    ⨾ by_k 0x34 quotient refl ⨾ by_x 0x3c quotient refl
-    ⨾ by_k 0x44 bits_or refl ⨾ by_x 0x4c bits_or refl
-    ⨾ by_k 0x54 bits_and refl ⨾ by_x 0x5c bits_and refl
-    ⨾ by_k 0x64 left_shift refl ⨾ by_x 0x6c left_shift refl
-    ⨾ by_k 0x74 right_shift refl ⨾ by_x 0x7c right_shift refl
-    ⨾ by_k 0x94 remainder refl ⨾ by_x 0x9c remainder refl
-    ⨾ by_k 0xa4 bits_xor refl ⨾ by_x 0xac bits_xor refl
-    ⨾ always
-    ⨾ branch_k 0x15 is_equal refl ⨾ branch_x 0x1d is_equal refl
-    ⨾ branch_k 0x25 is_greater refl ⨾ branch_x 0x2d is_greater refl
-    ⨾ branch_k 0x35 is_at_least refl ⨾ branch_x 0x3d is_at_least refl
-    ⨾ branch_k 0x45 shares_bit refl ⨾ branch_x 0x4d shares_bit refl
-    ⨾ returns_k
-    ⨾ returns_a
-    ⨾ to_x 0x07 (λ i p s. Some s.a) refl
-    ⨾ to_a 0x87 (λ i p s. Some s.x) refl
-    ⨾ tt
+    next refl
+    ⨾ to_a (λ i p s. absolute 4 i.k p) refl ⨾ to_a (λ i p s. absolute 2 i.k p) refl ⨾ to_a (λ i p s. absolute 1 i.k p) refl
+    ⨾ to_a (λ i p s. number_at 4 (s.x + i.k) p.bytes) refl ⨾ to_a (λ i p s. number_at 2 (s.x + i.k) p.bytes) refl
+    ⨾ to_a (λ i p s. number_at 1 (s.x + i.k) p.bytes) refl
+    ⨾ next refl ⨾ next refl ⨾ next refl ⨾ next refl ⨾ next refl
+    ⨾ to_x (λ i p s. option_map header_length (number_at 1 i.k p.bytes)) refl
+    ⨾ next refl ⨾ next refl ⨾ next refl ⨾ next refl ⨾ next refl ⨾ next refl ⨾ next refl ⨾ next refl ⨾ next refl
+    ⨾ to_a (λ i p s. quotient s.a i.k) refl ⨾ to_a (λ i p s. quotient s.a s.x) refl
+    ⨾ next refl ⨾ next refl ⨾ next refl ⨾ next refl
+    ⨾ to_a (λ i p s. left_shift s.a i.k) refl ⨾ to_a (λ i p s. left_shift s.a s.x) refl
+    ⨾ to_a (λ i p s. right_shift s.a i.k) refl ⨾ to_a (λ i p s. right_shift s.a s.x) refl
+    ⨾ to_a (λ i p s. remainder s.a i.k) refl ⨾ to_a (λ i p s. remainder s.a s.x) refl
+    ⨾ next refl ⨾ next refl ⨾ always
+    ⨾ branch (λ i s. is_equal s.a i.k) refl ⨾ branch (λ i s. is_equal s.a s.x) refl
+    ⨾ branch (λ i s. is_greater s.a i.k) refl ⨾ branch (λ i s. is_greater s.a s.x) refl
+    ⨾ branch (λ i s. is_at_least s.a i.k) refl ⨾ branch (λ i s. is_at_least s.a s.x) refl
+    ⨾ branch (λ i s. shares_bit s.a i.k) refl ⨾ branch (λ i s. shares_bit s.a s.x) refl
+    ⨾ returns ⨾ returns ⨾ next refl ⨾ next refl ⨾ tt
 
 by_row : (rows : List (ℕ × Effect)) (behind : ℕ) (i : Insn) (p : PacketFacts) (s : State) → AllByRecursion IsRow rows
     → Fits behind i
