@@ -11,14 +11,8 @@ use Rattle.std.proofs.Math.Seq.{take-add}
 use Rattle.tp_layout.specs.Rows.{number_at}
 use Rattle.tx_ring.specs.Slots.{IsSlot, IsSound, SlotState, empty_slot, put_slot, slot_at, slot_in, slot_text}
 use Rattle.tx_ring.specs.SlotsInside.{AreSlots, IsKept, slots_by, slots_in}
-use Rattle.tx_ring.proofs.Texts.{length-slot_text, lent, told, zeros_empty}
+use Rattle.tx_ring.proofs.Texts.{length-slot_text, lent as lent_back, told, zeros_empty}
 use Rattle.tx_ring.proofs.Texts.{written as written_text}
-
--- the slots before a place
-pub within_bytes : (size written at : ℕ) → at < written → at * size + size ≤ written * size
-within_bytes size written at less =
-    let all : suc at * size ≤ written * size = mul-le-mul_right size (omega arith) in
-    omega (arith, all)
 
 pub length-slots_in : (size count : ℕ) (bytes : List ℕ) → length (slots_in size count bytes) ≡ count
 length-slots_in size zero bytes = refl
@@ -33,13 +27,20 @@ length-slots_by size count written bytes few =
     omega (arith, first, rest, both)
 
 -- a place among all slots is below their number
-pub less_of : (size count written at : ℕ) (bytes : List ℕ) (slots : List SlotState) → written ≤ count
-    → slots_by size count written bytes ≡ slots
-    → at < length slots → at < count
-less_of size count written at bytes slots few is within =
-    let all = length-slots_by size count written bytes few in
-    let same = ap length is in
+pub less_of : {size count written room at : ℕ} {bytes : List ℕ} {slots : List SlotState} → IsKept size count written room bytes
+    → slots_by size count written bytes ≡ slots → at < length slots → at < count
+less_of {size} {count} {written} {bytes} kept view within =
+    let all = length-slots_by size count written bytes kept.few in
+    let same = ap length view in
     omega (arith, all, same, within)
+
+-- the bytes of a slot that was written are there
+pub within_bytes : {size count written room : ℕ} {bytes : List ℕ} (at : ℕ) → IsKept size count written room bytes
+    → at < written → at * size + size ≤ length bytes
+within_bytes {size} {written} at kept less =
+    let all : suc at * size ≤ written * size = mul-le-mul_right size (omega arith) in
+    let whole = kept.whole in
+    omega (arith, all, whole)
 
 -- the bytes of the slots after the first one
 after_first : (size at : ℕ) (bytes : List ℕ) → drop (suc at * size) bytes ≡ drop (at * size) (drop size bytes)
@@ -70,13 +71,17 @@ written_slot size count written at bytes less =
     ∙ slot_in_bytes size written at bytes less
 
 -- its bytes are those of a slot
-pub is_slot : (size written at : ℕ) (bytes : List ℕ) → AreSlots size written bytes → at < written
+is_slot_by : (size written at : ℕ) (bytes : List ℕ) → AreSlots size written bytes → at < written
     → IsSlot (take size (drop (at * size) bytes))
-is_slot size zero at bytes each less = absurd (omega arith)
-is_slot size (suc written) zero bytes each less = rw (at_first size bytes) each.0
-is_slot size (suc written) (suc at) bytes each less =
+is_slot_by size zero at bytes each less = absurd (omega arith)
+is_slot_by size (suc written) zero bytes each less = rw (at_first size bytes) each.0
+is_slot_by size (suc written) (suc at) bytes each less =
     subst (λ (rest : List ℕ). IsSlot (take size rest)) (sym (after_first size at bytes))
-    (is_slot size written at (drop size bytes) each.1 (omega arith))
+    (is_slot_by size written at (drop size bytes) each.1 (omega arith))
+
+pub is_slot : {size count written room : ℕ} {bytes : List ℕ} (at : ℕ) → IsKept size count written room bytes → at < written
+    → IsSlot (take size (drop (at * size) bytes))
+is_slot at kept less = is_slot_by _ _ at _ kept.each less
 
 -- a slot that wasn't written
 pub unwritten_slot : (size count written at : ℕ) (bytes : List ℕ) → written ≤ at → at < count
@@ -221,55 +226,43 @@ length-put_slot from size bytes slot within same =
     omega (arith, front, back, first, second)
 
 -- the slots up to one are made zeros, where they weren't written
-pub grown : (size count before after : ℕ) (bytes : List ℕ) → 48 ≤ size → length bytes ≡ before * size → before ≤ after
-    → after ≤ count
-    → slots_by size count after (bytes ++ replicate (after * size - length bytes) 0) ≡ slots_by size count before bytes
-grown size count before after bytes least whole more few =
-    let sum : before + (after - before) ≡ after = omega arith in
-    let all : after * size ≡ before * size + (after - before) * size =
-    ap (λ (n : ℕ). n * size) (sym sum) ∙ omega arith in
-    let zeros : after * size - length bytes ≡ (after - before) * size = omega (arith, all) in
-    let rest : after - before + (count - after) ≡ count - before = omega arith in
-    let grows = grown_in size before (after - before) bytes least whole in
-    rw zeros
-    (ap (λ (n : ℕ). slots_in size n (bytes ++ replicate ((after - before) * size) 0)
-    ++ replicate (count - after) (empty_slot size)) (sym sum)
-    ∙ ap (λ (slots : List SlotState). slots ++ replicate (count - after) (empty_slot size)) grows
-    ∙ append_assoc (slots_in size before bytes) (replicate (after - before) (empty_slot size))
-    (replicate (count - after) (empty_slot size))
-    ∙ ap (λ (slots : List SlotState). slots_in size before bytes ++ slots)
-    (replicate-append-replicate (after - before) (count - after) (empty_slot size)
-    ∙ ap (λ (n : ℕ). replicate n (empty_slot size)) rest))
-
-pub grown_kept : (size count before after room more_room : ℕ) (bytes : List ℕ) → IsKept size count before room bytes
-    → before ≤ after → after ≤ count → room ≤ more_room
-    → IsKept size count after more_room (bytes ++ replicate (after * size - length bytes) 0)
-grown_kept size count before after room more_room bytes kept more few wide =
+pub grown : {size count before room more : ℕ} {bytes new : List ℕ} (after : ℕ) → IsKept size count before room bytes
+    → before ≤ after → after ≤ count → room ≤ more → new ≡ bytes ++ replicate (after * size - length bytes) 0
+    → IsKept size count after more new × (slots_by size count after new ≡ slots_by size count before bytes)
+grown {size} {count} {before} {bytes} after kept grows few wide new_is =
     let whole = kept.whole in
-    let sum : before + (after - before) ≡ after = omega arith in
-    let all : after * size ≡ before * size + (after - before) * size =
-    ap (λ (n : ℕ). n * size) (sym sum) ∙ omega arith in
-    let zeros : after * size - length bytes ≡ (after - before) * size = omega (arith, all, whole) in
-    let both = length-append bytes (replicate (after * size - length bytes) 0) in
-    let count_of = length-replicate {A = ℕ} (after * size - length bytes) 0 in
     let enough = kept.room_is in
-    let are = grown_are size before (after - before) bytes kept.least whole kept.each in
-    record {
-      least = kept.least;
-      small = kept.small;
-      few = few;
-      whole = omega (arith, both, count_of, zeros, all, whole);
-      room_is = omega (arith, enough);
-      each = rw zeros (subst (λ (n : ℕ). AreSlots size n (bytes ++ replicate ((after - before) * size) 0)) sum are);
-    }
+    let others = replicate (count - after) (empty_slot size) in
+    let sum : before + (after - before) ≡ after = omega arith in
+    let all : after * size ≡ before * size + (after - before) * size = ap (λ (n : ℕ). n * size) (sym sum) ∙ omega arith in
+    let zeros : after * size - length bytes ≡ (after - before) * size = omega (arith, all, whole) in
+    let both = length-append bytes (replicate ((after - before) * size) 0) in
+    let count_of = length-replicate {A = ℕ} ((after - before) * size) 0 in
+    let rest : after - before + (count - after) ≡ count - before = omega arith in
+    rw (new_is, zeros) (
+      record {
+        least = kept.least;
+        small = kept.small;
+        few = few;
+        whole = omega (arith, both, count_of, all, whole);
+        room_is = omega (arith, enough);
+        each = subst (λ (n : ℕ). AreSlots size n (bytes ++ replicate ((after - before) * size) 0)) sum
+            (grown_are size before (after - before) bytes kept.least whole kept.each);
+      },
+      ap (λ (n : ℕ). slots_in size n (bytes ++ replicate ((after - before) * size) 0) ++ others) (sym sum)
+          ∙ ap (λ (slots : List SlotState). slots ++ others) (grown_in size before (after - before) bytes kept.least whole)
+          ∙ append_assoc (slots_in size before bytes) (replicate (after - before) (empty_slot size)) others
+          ∙ ap (λ (slots : List SlotState). slots_in size before bytes ++ slots)
+          (replicate-append-replicate (after - before) (count - after) (empty_slot size)
+          ∙ ap (λ (n : ℕ). replicate n (empty_slot size)) rest),
+    )
 
 -- a slot is written
-pub put_by : (size count written at room : ℕ) (bytes : List ℕ) (slot : SlotState) → IsKept size count written room bytes
-    → at < written
-    → IsSound slot → slot.size ≡ size
+put_by : {size count written room : ℕ} {bytes : List ℕ} (at : ℕ) (slot : SlotState) → IsKept size count written room bytes
+    → at < written → IsSound slot → slot.size ≡ size
     → slots_by size count written (put_slot (at * size) size bytes (slot_text slot))
     ≡ set (slots_by size count written bytes) at slot
-put_by size count written at room bytes slot kept less sound same =
+put_by {size} {count} {written} {bytes} at slot kept less sound same =
     let whole = length-slot_text slot sound.fits ∙ same in
     let there = length-slots_in size written bytes in
     let others = replicate (count - written) (empty_slot size) in
@@ -278,57 +271,59 @@ put_by size count written at room bytes slot kept less sound same =
     ∙ ap (set (slots_in size written bytes) at) (told slot sound))
     ∙ sym (set-append_left (slots_in size written bytes) others at slot (omega (arith, there)))
 
-pub put_kept : (size count written at room : ℕ) (bytes : List ℕ) (slot : SlotState) → IsKept size count written room bytes
-    → at < written
-    → IsSound slot → slot.size ≡ size → IsKept size count written room (put_slot (at * size) size bytes (slot_text slot))
-put_kept size count written at room bytes slot kept less sound same =
+put_kept : {size count written room : ℕ} {bytes : List ℕ} (at : ℕ) (slot : SlotState) → IsKept size count written room bytes
+    → at < written → IsSound slot → slot.size ≡ size
+    → IsKept size count written room (put_slot (at * size) size bytes (slot_text slot))
+put_kept {size} {written} {bytes} at slot kept less sound same =
     let whole = length-slot_text slot sound.fits ∙ same in
-    let before = kept.whole in
-    let within = within_bytes size written at less in
     let is : IsSlot (slot_text slot) = written_text (slot_text slot) slot sound refl in
     record {
       least = kept.least;
       small = kept.small;
       few = kept.few;
-      whole = length-put_slot (at * size) size bytes (slot_text slot) (omega (arith, within, before)) whole ∙ before;
+      whole = length-put_slot (at * size) size bytes (slot_text slot) (within_bytes at kept less) whole ∙ kept.whole;
       room_is = kept.room_is;
-      each = put_are size written at bytes (slot_text slot) before whole less kept.each is;
+      each = put_are size written at bytes (slot_text slot) kept.whole whole less kept.each is;
     }
 
 -- the bytes of a slot that was written
-pub shown : (size count written at room : ℕ) (bytes : List ℕ) → IsKept size count written room bytes → at < written
+pub shown : {size count written room : ℕ} {bytes : List ℕ} (at : ℕ) → IsKept size count written room bytes → at < written
     → take size (drop (at * size) bytes) ≡ slot_text (slot_at (slots_by size count written bytes) at)
-shown size count written at room bytes kept less =
-    let slot = is_slot size written at bytes kept.each less in
-    slot.text ∙ ap slot_text (sym (written_slot size count written at bytes less))
+shown {size} {count} {written} {bytes} at kept less =
+    (is_slot at kept less).text ∙ ap slot_text (sym (written_slot size count written at bytes less))
 
--- each slot is sound, and of the size of all
-pub each_sound : (size count written at room : ℕ) (bytes : List ℕ) → IsKept size count written room bytes → at < count
-    → IsSound (slot_at (slots_by size count written bytes) at)
-each_sound size count written at room bytes kept less =
-    elim (cases_lt at written) [
-      | inl below ↦ subst IsSound (sym (written_slot size count written at bytes below))
-          (is_slot size written at bytes kept.each below).sound
-      | inr past ↦ subst IsSound (sym (unwritten_slot size count written at bytes past less)) (empty_sound size kept.least)
-    ]
-
-pub slot_size : (size count written at room : ℕ) (bytes : List ℕ) → IsKept size count written room bytes → at < written
-    → length (take size (drop (at * size) bytes)) ≡ size
-slot_size size count written at room bytes kept below =
-    let within = within_bytes size written at below in
-    let whole = kept.whole in
+-- its size is that of all
+pub size_there : {size count written room : ℕ} {bytes : List ℕ} {slots : List SlotState} (at : ℕ)
+    → IsKept size count written room bytes → slots_by size count written bytes ≡ slots → at < written
+    → (slot_at slots at).size ≡ size
+size_there {size} {count} {written} {bytes} at kept view below =
+    let within = within_bytes at kept below in
     let rest = length-drop (at * size) bytes in
-    length-take-le size (drop (at * size) bytes) (omega (arith, within, whole, rest))
+    ap (λ (slots : List SlotState). (slot_at slots at).size) (sym view)
+    ∙ ap (λ (slot : SlotState). slot.size) (written_slot size count written at bytes below)
+    ∙ length-take-le size (drop (at * size) bytes) (omega (arith, within, rest))
 
-pub each_size : (size count written at room : ℕ) (bytes : List ℕ) → IsKept size count written room bytes → at < count
-    → (slot_at (slots_by size count written bytes) at).size ≡ size
-each_size size count written at room bytes kept less =
-    elim (cases_lt at written) [
-      | inl below ↦
-          ap (λ (slot : SlotState). slot.size) (written_slot size count written at bytes below)
-          ∙ slot_size size count written at room bytes kept below
-      | inr past ↦ ap (λ (slot : SlotState). slot.size) (unwritten_slot size count written at bytes past less)
-    ]
+-- each slot is sound
+pub each_sound : {size count written room : ℕ} {bytes : List ℕ} {slots : List SlotState} (at : ℕ)
+    → IsKept size count written room bytes → slots_by size count written bytes ≡ slots → at < length slots
+    → IsSound (slot_at slots at)
+each_sound {size} {count} {written} {bytes} at kept view less =
+    subst (λ (slots : List SlotState). IsSound (slot_at slots at)) view
+    (elim (cases_lt at written) [
+      | inl below ↦ subst IsSound (sym (written_slot size count written at bytes below)) (is_slot at kept below).sound
+      | inr past ↦ subst IsSound (sym (unwritten_slot size count written at bytes past (less_of kept view less)))
+          (empty_sound size kept.least)
+    ])
+
+-- one that wasn't written is empty
+pub unwritten : {size count written room : ℕ} {bytes : List ℕ} {slots : List SlotState} (at : ℕ)
+    → IsKept size count written room bytes → slots_by size count written bytes ≡ slots → written ≤ at → at < length slots
+    → slot_at slots at ≡ empty_slot (slot_at slots at).size
+unwritten {size} {count} {written} {bytes} {slots} at kept view past less =
+    let is : slot_at slots at ≡ empty_slot size =
+    ap (λ (slots : List SlotState). slot_at slots at) (sym view)
+    ∙ unwritten_slot size count written at bytes past (less_of kept view less) in
+    is ∙ ap (λ (slot : SlotState). empty_slot slot.size) (sym is)
 
 -- a number in zeros
 zero_number : (place more : ℕ) → number_at 4 place (replicate (place + (4 + more)) 0) ≡ 0
@@ -338,78 +333,37 @@ zero_number place more =
     rw (drop-replicate {X = ℕ} place (place + (4 + more)) 0, rest) refl
 
 -- a number in the header of a slot that wasn't written
-pub unwritten_number : (size count written at room place : ℕ) (bytes : List ℕ) → IsKept size count written room bytes
-    → written ≤ at → at < count
-    → place + 4 ≤ 48 → 0 ≡ number_at 4 place (slot_text (slot_at (slots_by size count written bytes) at))
-unwritten_number size count written at room place bytes kept past less header =
-    let least = kept.least in
-    let sum : place + (4 + (size - (place + 4))) ≡ size = omega (arith, least) in
-    sym (ap (λ (slot : SlotState). number_at 4 place (slot_text slot)) (unwritten_slot size count written at bytes past less)
-    ∙ ap (number_at 4 place) (sym (zeros_empty size least))
-    ∙ ap (λ (n : ℕ). number_at 4 place (replicate n 0)) (sym sum)
+pub empty_number : (place size : ℕ) → 48 ≤ size → place + 4 ≤ 48 → 0 ≡ number_at 4 place (slot_text (empty_slot size))
+empty_number place size least header =
+    let sum : place + (4 + (size - (place + 4))) ≡ size = omega arith in
+    sym (ap (number_at 4 place) (sym (zeros_empty size least)) ∙ ap (λ (n : ℕ). number_at 4 place (replicate n 0)) (sym sum)
     ∙ zero_number place (size - (place + 4)))
 
--- a slot that asks for something was written
-pub was_written : (size count written at : ℕ) (bytes : List ℕ) → at < count
-    → 0 < (slot_at (slots_by size count written bytes) at).request.length → at < written
-was_written size count written at bytes less some =
-    elim (cases_lt at written) [
-      | inl below ↦ below
-      | inr past ↦
-          let none : (slot_at (slots_by size count written bytes) at).request.length ≡ 0 =
-          ap (λ (slot : SlotState). slot.request.length) (unwritten_slot size count written at bytes past less) in
-          absurd (omega arith)
-    ]
-
 -- the places of slots are numbers of 64 bits
-pub places_fit : (size count written at room : ℕ) (bytes : List ℕ) → IsKept size count written room bytes → at < count
-    → (at + 1 < 2 ^ 64) × ((at + 1) * size < 2 ^ 64) × ((at + 1) * size ≤ room) × (at * size < 2 ^ 64)
-places_fit size count written at room bytes kept less =
+pub places_fit : {size count written room : ℕ} {bytes : List ℕ} (at : ℕ) → IsKept size count written room bytes → at < count
+    → (at + 1 < 2 ^ 64) × ((at + 1) * size < 2 ^ 64) × ((at + 1) * size ≤ room)
+places_fit {size} {count} at kept less =
     let least = kept.least in
     let small = kept.small in
     let enough = kept.room_is in
     let all : (at + 1) * size ≤ count * size = mul-le-mul_right size (omega arith) in
     let one : (at + 1) * 48 ≤ (at + 1) * size = mul-le-mul_left (at + 1) least in
-    (omega (arith, all, one, small), omega (arith, all, small), omega (arith, all, enough), omega (arith, all, small))
+    (omega (arith, all, one, small), omega (arith, all, small), omega (arith, all, enough))
 
--- a slot is written among those that are made zeros up to some
-pub requested : (size count before after at room more len : ℕ) (bytes old new : List ℕ) (slot : SlotState)
-    → IsKept size count before room bytes → at < after → before ≤ after → after ≤ count → room ≤ more
-    → IsSound slot → slot.size ≡ size → old ≡ bytes ++ replicate (after * size - length bytes) 0 → length old ≡ len
-    → new ≡ put_slot (at * size) size old (slot_text slot)
-    → IsKept size count after more (take len (new ++ drop (length new) old))
-    × (slots_by size count after (take len (new ++ drop (length new) old)) ≡ set (slots_by size count before bytes) at slot)
-requested size count before after at room more len bytes old new slot kept less grows few wide sound same zeros all text =
-    let kept_on : IsKept size count after more old =
-    subst (IsKept size count after more) (sym zeros) (grown_kept size count before after room more bytes kept grows few wide) in
-    let within = within_bytes size after at less in
-    let whole = kept_on.whole in
-    let slot_whole = length-slot_text slot sound.fits ∙ same in
-    let count_of : length new ≡ length old =
-    ap length text ∙ length-put_slot (at * size) size old (slot_text slot) (omega (arith, within, whole)) slot_whole in
-    let back : take len (new ++ drop (length new) old) ≡ put_slot (at * size) size old (slot_text slot) =
-    lent len new old (count_of ∙ all) all ∙ text in (
-      rw back (put_kept size count after at more old slot kept_on less sound same),
-      rw back
-          (put_by size count after at more old slot kept_on less sound same
-          ∙ ap (λ (bytes : List ℕ). set (slots_by size count after bytes) at slot) zeros
-          ∙ ap (λ (slots : List SlotState). set slots at slot)
-          (grown size count before after bytes kept.least kept.whole grows few)),
-    )
-
--- a slot as it was, in the bytes that were made zeros up to some
-pub as_before : (size count before after at room more : ℕ) (bytes old : List ℕ)
-    → IsKept size count before room bytes → at < after → before ≤ after → after ≤ count → room ≤ more
-    → old ≡ bytes ++ replicate (after * size - length bytes) 0
-    → IsSlot (take size (drop (at * size) old))
-    × (slot_in (take size (drop (at * size) old)) ≡ slot_at (slots_by size count before bytes) at)
-as_before size count before after at room more bytes old kept less grows few wide zeros =
-    let kept_on : IsKept size count after more old =
-    subst (IsKept size count after more) (sym zeros)
-    (grown_kept size count before after room more bytes kept grows few wide) in (
-      is_slot size after at old kept_on.each less,
-      sym (written_slot size count after at old less)
-          ∙ ap (λ (bytes : List ℕ). slot_at (slots_by size count after bytes) at) zeros
-          ∙ ap (λ (slots : List SlotState). slot_at slots at)
-          (grown size count before after bytes kept.least kept.whole grows few),
+-- a slot is written into bytes that were borrowed whole
+pub changed : {size count written room n len : ℕ} {bytes lent new : List ℕ} {slots : List SlotState} {said slot : SlotState}
+    (at : ℕ) → IsKept size count written room bytes → slots_by size count written bytes ≡ slots → at < written → n ≡ size
+    → lent ≡ bytes → length lent ≡ len → new ≡ put_slot (at * n) n lent (slot_text said) → said ≡ slot → IsSound slot
+    → slot.size ≡ (slot_at slots at).size
+    → IsKept size count written room (take len (new ++ drop (length new) bytes))
+    × (slots_by size count written (take len (new ++ drop (length new) bytes)) ≡ set slots at slot)
+changed {size} {len} {bytes} {new} {slot} at kept view below n_is lent_is len_is new_is said_is sound same =
+    let sized = same ∙ size_there at kept view below in
+    let put : new ≡ put_slot (at * size) size bytes (slot_text slot) = rw (sym n_is, sym lent_is, sym said_is) new_is in
+    let whole = ap length (sym lent_is) ∙ len_is in
+    let size_of = ap length put ∙ length-put_slot (at * size) size bytes (slot_text slot) (within_bytes at kept below)
+    (length-slot_text slot sound.fits ∙ sized) in
+    let back = lent_back len new bytes (size_of ∙ whole) whole ∙ put in (
+      rw back (put_kept at slot kept below sound sized),
+      rw back (put_by at slot kept below sound sized ∙ ap (λ (slots : List SlotState). set slots at slot) view),
     )

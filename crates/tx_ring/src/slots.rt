@@ -1,11 +1,12 @@
 //! The slots of a transmit ring.
-ghost use Rattle.std.specs.Prelude.{◌≡◌, ◌+◌, ◌-◌, ◌*◌, ◌^◌, ◌<◌, ◌≤◌, ◌++◌, ℕ, IfOk, drop, length};
+ghost use Rattle.std.specs.Prelude.{◌≡◌, ◌+◌, ◌*◌, ◌^◌, ◌<◌, ◌≤◌, IfOk, MatchOption, drop, length};
 ghost use Rattle.std.specs.Prelude.{replicate, set, take};
 ghost use Rattle.std.specs.Vec.{vec_capacity};
 ghost use Rattle.tx_ring.specs.Sends.{frame_of};
 ghost use Rattle.tp_layout.specs.Rows.{number_at};
 ghost use Rattle.tx_ring.specs.Slots.{IsSlot, IsSound, SlotState, empty_slot, put_slot};
 ghost use Rattle.tx_ring.specs.Slots.{slot_at, slot_in, slot_text};
+ghost use Rattle.tx_ring.specs.SlotsInside.{IsKept, slots_by};
 
 use crate::slot_fields::{
     HEADER, LENGTH, NEXT_OFFSET, SNAPLEN, STATUS, write_data, write_header, write_u32,
@@ -71,7 +72,7 @@ impl Slots {
         }) }
     {
         let size = self.shape.frame_size() as usize;
-        self.written = write_zeros(&mut self.bytes, size, self.written, at + 1);
+        self.written = write_zeros(&mut self.bytes, &self.shape, self.written, at);
         write_slot(
             self.bytes.as_mut_slice(),
             at * size,
@@ -88,7 +89,7 @@ impl Slots {
         ensures { self.new ≡ set self.old at (record (slot_at self.old at) { status = status }) }
     {
         let size = self.shape.frame_size() as usize;
-        self.written = write_zeros(&mut self.bytes, size, self.written, at + 1);
+        self.written = write_zeros(&mut self.bytes, &self.shape, self.written, at);
         write_status(self.bytes.as_mut_slice(), at * size, size, status);
     }
 
@@ -126,9 +127,10 @@ impl Slots {
         ensures short { length result.now < 2 ^ 32 }
     {
         let count = self.asked(at) as usize;
-        let size = self.shape.frame_size() as usize;
-        let slot = piece_of(self.bytes.as_slice(), at * size, size);
-        piece_of(slot, HEADER, count)
+        match self.slot(at) {
+            Some(slot) => piece_of(slot, HEADER, count),
+            None => &[],
+        }
     }
 
     /// The number in a field of a slot's header, which is 0 in a slot that was never written.
@@ -136,35 +138,50 @@ impl Slots {
         requires within { at < length self.now }
         requires header { place + 4 ≤ 48 }
         ensures value { result ≡ number_at 4 place (slot_text (slot_at self.now at)) }
+        ensures told { slot_in (slot_text (slot_at self.now at)) ≡ slot_at self.now at }
+    {
+        match self.slot(at) {
+            Some(slot) => u32_at(slot, place),
+            None => 0,
+        }
+    }
+
+    /// The bytes of a slot, if it was written.
+    fn slot(&self, at: usize) -> Option<&[u8]>
+        requires { at < length self.now }
+        ensures value { MatchOption result
+            (slot_at self.now at ≡ empty_slot (slot_at self.now at).size)
+            (λ slot. slot.now ≡ slot_text (slot_at self.now at)) }
         ensures sound { IsSound (slot_at self.now at) }
     {
         let size = self.shape.frame_size() as usize;
         if at < self.written {
-            u32_at(piece_of(self.bytes.as_slice(), at * size, size), place)
+            Some(piece_of(self.bytes.as_slice(), at * size, size))
         } else {
-            0
+            None
         }
     }
 }
 
-/// Fills the slots of this size with zeros up to `least` of them, if fewer were written, and
-/// returns how many are written then. There is memory for them.
-fn write_zeros(bytes: &mut Vec<u8>, size: usize, written: usize, least: usize) -> usize
-    requires whole { length bytes.old.items ≡ written * size }
-    requires small { least * size < 2 ^ 64 }
-    requires room { least * size ≤ vec_capacity bytes.old }
-    ensures least { least ≤ result }
-    ensures more { written ≤ result }
-    ensures few { (limit : ℕ) → written ≤ limit → least ≤ limit → result ≤ limit }
-    ensures items { bytes.new.items
-        ≡ bytes.old.items ++ replicate (result * size - length bytes.old.items) 0 }
-    ensures room { vec_capacity bytes.old ≤ vec_capacity bytes.new }
+/// Fills the slots up to a place with zeros, if fewer were written, and returns how many are
+/// written then. There is memory for them.
+fn write_zeros(bytes: &mut Vec<u8>, shape: &Shape, written: usize, at: usize) -> usize
+    requires kept { IsKept shape.now.frame_size shape.now.frame_nr written
+        (vec_capacity bytes.old) bytes.old.items }
+    requires place { at < shape.now.frame_nr }
+    ensures past { at < result }
+    ensures kept { IsKept shape.now.frame_size shape.now.frame_nr result
+        (vec_capacity bytes.new) bytes.new.items }
+    ensures same { slots_by shape.now.frame_size shape.now.frame_nr result bytes.new.items
+        ≡ slots_by shape.now.frame_size shape.now.frame_nr written bytes.old.items }
+    ensures within { at * shape.now.frame_size + shape.now.frame_size ≤ length bytes.new.items }
 {
-    if least <= written {
+    if at < written {
         return written;
     }
-    match bytes.resize(least * size, 0) {
-        Ok(()) => least,
+    let size = shape.frame_size() as usize;
+    match bytes.resize((at + 1) * size, 0) {
+        Ok(()) => at + 1,
         Err(_) => unreachable!(),
     }
 }
@@ -210,10 +227,8 @@ fn write_slot(
 /// Writes the status of the slot of this size at a place.
 fn write_status(bytes: &mut [u8], from: usize, size: usize, status: u32)
     requires within { from + size ≤ length bytes.old }
-    requires least { 48 ≤ size }
-    ensures { take size (drop from bytes.old)
-        ≡ slot_text (slot_in (take size (drop from bytes.old)))
-        → bytes.new ≡ put_slot from size bytes.old
+    requires slot { IsSlot (take size (drop from bytes.old)) }
+    ensures { bytes.new ≡ put_slot from size bytes.old
         (slot_text (record (slot_in (take size (drop from bytes.old))) { status = status })) }
 {
     let (_, rest) = bytes.split_at_mut(from);

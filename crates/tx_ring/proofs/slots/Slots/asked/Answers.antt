@@ -1,11 +1,8 @@
 use Rattle.std.proofs.Common.{ap, ◌∙◌}
 use Rattle.tp_layout.specs.Rows.{number_at}
-use Rattle.tx_ring.specs.Slots.{SlotState, slot_at}
-use Rattle.tx_ring.proofs.Texts.{told}
+use Rattle.tx_ring.specs.Slots.{SlotState}
 use Rattle.tx_ring.proofs.slots.Slots.asked.Goals as goal
 
 pub returns : goal.returns
 unfolding number_at
-returns c =
-    c.field.ensures.value ∙ ap (λ (slot : SlotState). slot.request.length)
-    (told (slot_at c.args.self.now c.args.at) c.field.ensures.sound)
+returns c = c.field.ensures.value ∙ ap (λ (slot : SlotState). slot.request.length) c.field.ensures.told

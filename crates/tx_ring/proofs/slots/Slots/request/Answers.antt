@@ -1,148 +1,63 @@
-use Rattle.std.proofs.Common.{◌≡◌, ◌-◌, ◌*◌, ◌<◌, ◌++◌, ℕ, List, length, refl, replicate, set, sym, ap, ◌∙◌, arith}
-use Rattle.std.specs.Vec.{vec_capacity}
-use Rattle.tx_ring.specs.Slots.{IsSound, SlotState, put_slot, slot_at, slot_text}
-use Rattle.tx_ring.proofs.Pieces.{as_before, each_size, less_of, places_fit, requested}
+use Rattle.std.proofs.Common.{◌≡◌, ℕ, ◌+◌, ◌*◌, ◌^◌, ◌<◌, ◌≤◌, List, ◌++◌, length, take, drop, set, refl, sym, ap, ◌∙◌, arith}
+use Rattle.tx_ring.specs.Slots.{SlotState, put_slot, slot_at, slot_text}
+use Rattle.tx_ring.specs.SlotsInside.{IsKept, slots_by}
+use Rattle.tx_ring.proofs.Pieces.{changed, is_slot, less_of, size_there}
 use Rattle.tx_ring.proofs.slots.Slots.request.Goals as goal
 
-pub overflow_add-at : goal.overflow_add-at
-overflow_add-at c =
-    let inside = c.self.inside in
-    let kept = c.self.invariant in
-    let less = less_of inside.shape.frame_size inside.shape.frame_nr inside.written c.args.at inside.bytes.items c.args.self.now
-    kept.few c.self.view_is c.requires.within in
-    let fits = places_fit inside.shape.frame_size inside.shape.frame_nr inside.written c.args.at (vec_capacity inside.bytes)
-    inside.bytes.items kept less in
-    omega (arith, fits.0)
+-- the slots after a request of `given` bytes was written
+abbrev requested_slot : ℕ → ℕ → ℕ → List ℕ → SlotState
+requested_slot size next_offset asked given = record {
+  size = size;
+  status = 1;
+  request = record { next_offset = next_offset; length = asked; bytes = given };
+}
 
-pub write_zeros-self-inside-requires-clause-small : goal.write_zeros-self-inside-requires-clause-small
-write_zeros-self-inside-requires-clause-small c =
-    let inside = c.self.inside in
-    let kept = c.self.invariant in
-    let less = less_of inside.shape.frame_size inside.shape.frame_nr inside.written c.args.at inside.bytes.items c.args.self.now
-    kept.few c.self.view_is c.requires.within in
-    let fits = places_fit inside.shape.frame_size inside.shape.frame_nr inside.written c.args.at (vec_capacity inside.bytes)
-    inside.bytes.items kept less in
-    rw c.frame_size-size.ensures.value fits.1
+asked_for : {size count written room n len : ℕ} {bytes lent new : List ℕ} {slots : List SlotState}
+    (at next_offset asked : ℕ) (given : List ℕ)
+    → IsKept size count written room bytes → slots_by size count written bytes ≡ slots → at < written → n ≡ size
+    → lent ≡ bytes → length lent ≡ len → 48 + length given ≤ (slot_at slots at).size
+    → next_offset < 2 ^ 32 → asked < 2 ^ 32 → n < 2 ^ 32
+    → new ≡ put_slot (at * n) n lent (slot_text (requested_slot n next_offset asked given))
+    → IsKept size count written room (take len (new ++ drop (length new) bytes))
+    × (slots_by size count written (take len (new ++ drop (length new) bytes))
+    ≡ set slots at (requested_slot (slot_at slots at).size next_offset asked given))
+asked_for {slots} at next_offset asked given kept view below n_is lent_is len_is fits offset_small asked_small small new_is =
+    let there = size_there at kept view below in
+    changed at kept view below n_is lent_is len_is new_is
+    (ap (λ (n : ℕ). requested_slot n next_offset asked given) (n_is ∙ sym there))
+    (record {
+      status = omega arith;
+      next_offset = offset_small;
+      asked = asked_small;
+      given = omega (arith, there, n_is);
+      fits = fits;
+    })
+    refl
 
-pub write_zeros-self-inside-requires-clause-room : goal.write_zeros-self-inside-requires-clause-room
-write_zeros-self-inside-requires-clause-room c =
-    let inside = c.self.inside in
-    let kept = c.self.invariant in
-    let less = less_of inside.shape.frame_size inside.shape.frame_nr inside.written c.args.at inside.bytes.items c.args.self.now
-    kept.few c.self.view_is c.requires.within in
-    let fits = places_fit inside.shape.frame_size inside.shape.frame_nr inside.written c.args.at (vec_capacity inside.bytes)
-    inside.bytes.items kept less in
-    rw c.frame_size-size.ensures.value fits.2
+pub write_zeros-self-inside-requires-clause-place : goal.write_zeros-self-inside-requires-clause-place
+write_zeros-self-inside-requires-clause-place c = less_of c.self.invariant c.self.view_is c.requires.within
 
 pub write_slot-requires-clause-fits : goal.write_slot-requires-clause-fits
 write_slot-requires-clause-fits c =
-    let inside = c.self.inside in
-    let kept = c.self.invariant in
-    let less = less_of inside.shape.frame_size inside.shape.frame_nr inside.written c.args.at inside.bytes.items c.args.self.now
-    kept.few c.self.view_is c.requires.within in
-    let sizes = ap (λ (slots : List SlotState). (slot_at slots c.args.at).size) c.self.view_is in
-    let each = each_size inside.shape.frame_size inside.shape.frame_nr inside.written c.args.at (vec_capacity inside.bytes)
-    inside.bytes.items kept less in
-    omega (arith, sizes, each, c.requires.fits, c.frame_size-size.ensures.value)
+    let zeros = c.write_zeros-self-inside.ensures in
+    let there = size_there c.args.at zeros.kept (zeros.same ∙ c.self.view_is) zeros.past in
+    omega (arith, there, c.requires.fits, c.frame_size-size.ensures.value)
 
 pub write_slot-requires-clause-slot : goal.write_slot-requires-clause-slot
 write_slot-requires-clause-slot c =
-    let inside = c.self.inside in
-    let kept = c.self.invariant in
-    let less = less_of inside.shape.frame_size inside.shape.frame_nr inside.written c.args.at inside.bytes.items c.args.self.now
-    kept.few c.self.view_is c.requires.within in
-    let size = inside.shape.frame_size in
-    let zeros = c.write_zeros-self-inside in
-    let old : zeros.new.bytes.items ≡ inside.bytes.items ++ replicate (zeros.result * size - length inside.bytes.items) 0 =
-    zeros.ensures.items ∙ ap (λ (n : ℕ). inside.bytes.items ++ replicate (zeros.result * n - length inside.bytes.items) 0)
-    c.frame_size-size.ensures.value in
-    let few = zeros.ensures.few inside.shape.frame_nr kept.few (omega (arith, less)) in
-    let before = as_before size inside.shape.frame_nr inside.written zeros.result c.args.at (vec_capacity inside.bytes)
-    (vec_capacity zeros.new.bytes)
-    inside.bytes.items zeros.new.bytes.items kept (omega (arith, zeros.ensures.least)) zeros.ensures.more few
-    zeros.ensures.room old in
-    rw (c.as_mut_slice.ensures.value, c.frame_size-size.ensures.value) before.0
+    let zeros = c.write_zeros-self-inside.ensures in
+    rw (c.as_mut_slice.ensures.value, c.frame_size-size.ensures.value) (is_slot c.args.at zeros.kept zeros.past)
 
 pub invariant_of-self : goal.invariant_of-self
 invariant_of-self c =
-    let inside = c.self.inside in
-    let kept = c.self.invariant in
-    let less = less_of inside.shape.frame_size inside.shape.frame_nr inside.written c.args.at inside.bytes.items c.args.self.now
-    kept.few c.self.view_is c.requires.within in
-    let size = inside.shape.frame_size in
-    let zeros = c.write_zeros-self-inside in
-    let old : zeros.new.bytes.items ≡ inside.bytes.items ++ replicate (zeros.result * size - length inside.bytes.items) 0 =
-    zeros.ensures.items ∙ ap (λ (n : ℕ). inside.bytes.items ++ replicate (zeros.result * n - length inside.bytes.items) 0)
-    c.frame_size-size.ensures.value in
-    let few = zeros.ensures.few inside.shape.frame_nr kept.few (omega (arith, less)) in
-    let slot : SlotState = record {
-      size = size;
-      status = 1;
-      request = record { next_offset = c.args.next_offset; length = c.args.asked; bytes = c.args.bytes.now };
-    } in
-    let sizes : (slot_at c.args.self.now c.args.at).size ≡ size =
-    ap (λ (slots : List SlotState). (slot_at slots c.args.at).size) (sym c.self.view_is)
-    ∙ each_size size inside.shape.frame_nr inside.written c.args.at (vec_capacity inside.bytes) inside.bytes.items kept less in
-    let sound : IsSound slot =
-    record {
-      status = omega arith;
-      next_offset = omega arith;
-      asked = omega arith;
-      given = omega (arith, c.requires.fits, sizes, c.frame_size-size.ensures.value);
-      fits =
-          omega (arith, c.requires.fits, sizes);
-    } in
-    let new : c.write_slot.new.bytes ≡ put_slot (c.args.at * size) size zeros.new.bytes.items (slot_text slot) =
-    c.write_slot.ensures
-    ∙ ap (λ (n : ℕ). put_slot (c.args.at * n) n c.as_mut_slice.result.now
-    (slot_text (record { size = n; status = 1; request = slot.request }))) c.frame_size-size.ensures.value
-    ∙ ap (λ (bytes : List ℕ). put_slot (c.args.at * size) size bytes (slot_text slot)) c.as_mut_slice.ensures.value in
-    let both = requested size inside.shape.frame_nr inside.written zeros.result c.args.at (vec_capacity inside.bytes)
-    (vec_capacity zeros.new.bytes) zeros.new.bytes.len
-    inside.bytes.items zeros.new.bytes.items c.write_slot.new.bytes slot kept (omega (arith, zeros.ensures.least))
-    zeros.ensures.more few zeros.ensures.room sound refl old
-    (ap length (sym c.as_mut_slice.ensures.value) ∙ c.as_mut_slice.ensures.len) new in
-    both.0
+    let zeros = c.write_zeros-self-inside.ensures in
+    (asked_for c.args.at c.args.next_offset c.args.asked c.args.bytes.now zeros.kept (zeros.same ∙ c.self.view_is) zeros.past
+    c.frame_size-size.ensures.value c.as_mut_slice.ensures.value c.as_mut_slice.ensures.len c.requires.fits (omega arith)
+    (omega arith) (omega arith) c.write_slot.ensures).0
 
 pub returns : goal.returns
 returns c =
-    let inside = c.self.inside in
-    let kept = c.self.invariant in
-    let less = less_of inside.shape.frame_size inside.shape.frame_nr inside.written c.args.at inside.bytes.items c.args.self.now
-    kept.few c.self.view_is c.requires.within in
-    let size = inside.shape.frame_size in
-    let zeros = c.write_zeros-self-inside in
-    let old : zeros.new.bytes.items ≡ inside.bytes.items ++ replicate (zeros.result * size - length inside.bytes.items) 0 =
-    zeros.ensures.items ∙ ap (λ (n : ℕ). inside.bytes.items ++ replicate (zeros.result * n - length inside.bytes.items) 0)
-    c.frame_size-size.ensures.value in
-    let few = zeros.ensures.few inside.shape.frame_nr kept.few (omega (arith, less)) in
-    let slot : SlotState = record {
-      size = size;
-      status = 1;
-      request = record { next_offset = c.args.next_offset; length = c.args.asked; bytes = c.args.bytes.now };
-    } in
-    let sizes : (slot_at c.args.self.now c.args.at).size ≡ size =
-    ap (λ (slots : List SlotState). (slot_at slots c.args.at).size) (sym c.self.view_is)
-    ∙ each_size size inside.shape.frame_nr inside.written c.args.at (vec_capacity inside.bytes) inside.bytes.items kept less in
-    let sound : IsSound slot =
-    record {
-      status = omega arith;
-      next_offset = omega arith;
-      asked = omega arith;
-      given = omega (arith, c.requires.fits, sizes, c.frame_size-size.ensures.value);
-      fits =
-          omega (arith, c.requires.fits, sizes);
-    } in
-    let new : c.write_slot.new.bytes ≡ put_slot (c.args.at * size) size zeros.new.bytes.items (slot_text slot) =
-    c.write_slot.ensures
-    ∙ ap (λ (n : ℕ). put_slot (c.args.at * n) n c.as_mut_slice.result.now
-    (slot_text (record { size = n; status = 1; request = slot.request }))) c.frame_size-size.ensures.value
-    ∙ ap (λ (bytes : List ℕ). put_slot (c.args.at * size) size bytes (slot_text slot)) c.as_mut_slice.ensures.value in
-    let both = requested size inside.shape.frame_nr inside.written zeros.result c.args.at (vec_capacity inside.bytes)
-    (vec_capacity zeros.new.bytes) zeros.new.bytes.len
-    inside.bytes.items zeros.new.bytes.items c.write_slot.new.bytes slot kept (omega (arith, zeros.ensures.least))
-    zeros.ensures.more few zeros.ensures.room sound refl old
-    (ap length (sym c.as_mut_slice.ensures.value) ∙ c.as_mut_slice.ensures.len) new in
-    both.1
-    ∙ ap (λ (slots : List SlotState). set slots c.args.at slot) c.self.view_is
-    ∙ ap (λ (n : ℕ). set c.args.self.now c.args.at (record { size = n; status = 1; request = slot.request })) (sym sizes)
+    let zeros = c.write_zeros-self-inside.ensures in
+    (asked_for c.args.at c.args.next_offset c.args.asked c.args.bytes.now zeros.kept (zeros.same ∙ c.self.view_is) zeros.past
+    c.frame_size-size.ensures.value c.as_mut_slice.ensures.value c.as_mut_slice.ensures.len c.requires.fits (omega arith)
+    (omega arith) (omega arith) c.write_slot.ensures).1
