@@ -8,7 +8,7 @@ use Rattle.std.proofs.lemmas.List.{get_or-set_same, get_or-set_other, get_or-rep
 use Rattle.std.proofs.Math.Nat.{mod-lt}
 use Rattle.tp_layout.specs.declared.requests.RingRequest.{RingRequest}
 use Rattle.tx_ring.specs.KeptSlots.{HasStopped, BeginsBad, Keeps, requests_in, state_in}
-use Rattle.tx_ring.specs.Rings.{TxState, is_among, new_ring, room_of, slot_of, status_by, status_of, with_request}
+use Rattle.tx_ring.specs.Rings.{TxState, front_slot, is_among, new_ring, room_of, slot_of, status_by, status_of, with_request}
 use Rattle.tx_ring.specs.Sends.{after_taking, is_good, front_of, request_at}
 use Rattle.tx_ring.specs.Slots.{Request, SlotState, empty_slot, slot_at}
 use Rattle.tx_ring.proofs.Turns.{among_more, drop-requests_in, first_is_past, length-requests_in, next_is_free, other_requests}
@@ -70,47 +70,34 @@ placed_there places placed taken at order other =
       or_no (is_among places at taken (placed - taken)),
     ) refl
 
+-- a ring by its fields has as many requests as are placed and not taken
+pub count_of : {shape : RingRequest} {skip : Bool} {slots : List SlotState} {placed taken : ℕ} {stopped : Option ℕ} {ring : TxState}
+    → Keeps (state_in shape skip slots placed taken stopped) slots taken → state_in shape skip slots placed taken stopped ≡ ring
+    → length ring.requests ≡ placed - taken
+count_of {shape} {slots} {placed} {taken} keeps view =
+    ap (λ (r : TxState). length r.requests) (sym view) ∙ length-requests_in shape.frame_nr slots taken (placed - taken)
+
+-- the slot of a number is one of the ring's
+place_within : {ring : TxState} {slots : List SlotState} {taken : ℕ} (number : ℕ) → Keeps ring slots taken
+    → number % ring.shape.frame_nr < length slots
+place_within number keeps =
+    let low = mod-lt number keeps.some in
+    let places = keeps.places in
+    omega arith
+
 -- a slot is placed
-pub placed_keeps : (shape : RingRequest) (skip : Bool) (slots : List SlotState) (placed taken : ℕ) (slot : SlotState)
+placed_by : (shape : RingRequest) (skip : Bool) (slots : List SlotState) (placed taken : ℕ) (slot : SlotState)
     → Keeps (state_in shape skip slots placed taken None) slots taken → placed - taken < shape.frame_nr
-    → slot.size ≡ shape.frame_size → slot.status ≡ 1
+    → slot.size ≡ (slot_at slots (placed % shape.frame_nr)).size → slot.status ≡ 1
     → Keeps (state_in shape skip (set slots (placed % shape.frame_nr) slot) (placed + 1) taken None)
     (set slots (placed % shape.frame_nr) slot) taken
-placed_keeps shape skip slots placed taken slot keeps free size status =
-    let at = placed % shape.frame_nr in
-    let count = length-set slots at slot in
-    let places = keeps.places in
-    let some = keeps.some in
-    let order = keeps.order in
-    let low = mod-lt placed some in
-    let within : at < length slots = omega arith in
-    record {
-      places = count ∙ places;
-      some = some;
-      least = keeps.least;
-      order = omega arith;
-      few = omega arith;
-      sizes = each_slot (λ k s. s.size ≡ shape.frame_size) slots at slot within size (λ k less other. keeps.sizes k less);
-      marks = each_slot (λ k s. s.status ≡ status_by None (is_among shape.frame_nr k taken (placed + 1 - taken)) k) slots
-          at slot within
-          (status ∙ placed_here shape.frame_nr placed taken order)
-          (λ k less other. keeps.marks k less ∙ placed_there shape.frame_nr placed taken k order other);
-      stop = tt;
-    }
-
--- the requests of a ring in which a slot was placed
-pub placed_state : (shape : RingRequest) (skip : Bool) (slots : List SlotState) (placed taken : ℕ) (slot : SlotState)
-    → Keeps (state_in shape skip slots placed taken None) slots taken → placed - taken < shape.frame_nr
-    → state_in shape skip (set slots (placed % shape.frame_nr) slot) (placed + 1) taken None
-    ≡ with_request (state_in shape skip slots placed taken None) slot.request
-placed_state shape skip slots placed taken slot keeps free =
+    × (state_in shape skip (set slots (placed % shape.frame_nr) slot) (placed + 1) taken None
+    ≡ with_request (state_in shape skip slots placed taken None) slot.request)
+placed_by shape skip slots placed taken slot keeps free size status =
     let n = shape.frame_nr in
     let at = placed % n in
+    let within : at < length slots = place_within placed keeps in
     let order = keeps.order in
-    let some = keeps.some in
-    let places = keeps.places in
-    let low = mod-lt placed some in
-    let within : at < length slots = omega arith in
     let last = behind placed taken order in
     let past : is_among n at taken (placed - taken) ≡ false =
     ap (λ (k : ℕ). is_among n (k % n) taken (placed - taken)) (sym last) ∙ next_is_free n taken (placed - taken) free in
@@ -122,8 +109,39 @@ placed_state shape skip slots placed taken slot keeps free =
       last,
       get_or-set_same slots at slot (empty_slot 0) within,
       other_requests n slots at slot taken (placed - taken) past,
-    ) refl in
-    rw requests refl
+    ) refl in (
+      record {
+        places = length-set slots at slot ∙ keeps.places;
+        some = keeps.some;
+        least = keeps.least;
+        order = omega arith;
+        few = omega arith;
+        sizes = each_slot (λ k s. s.size ≡ shape.frame_size) slots at slot within (size ∙ keeps.sizes at within)
+            (λ k less other. keeps.sizes k less);
+        marks = each_slot (λ k s. s.status ≡ status_by None (is_among n k taken (placed + 1 - taken)) k) slots at slot within
+            (status ∙ placed_here n placed taken order)
+            (λ k less other. keeps.marks k less ∙ placed_there n placed taken k order other);
+        stop = tt;
+      },
+      rw requests refl,
+    )
+
+pub placed_next : {shape : RingRequest} {skip : Bool} {slots : List SlotState} {placed taken : ℕ} {stopped : Option ℕ} {ring : TxState}
+    {new : List SlotState} {at : ℕ} (request : Request)
+    → Keeps (state_in shape skip slots placed taken stopped) slots taken → state_in shape skip slots placed taken stopped ≡ ring
+    → length ring.requests < ring.shape.frame_nr → ring.stopped ≡ None → at ≡ slot_of ring.shape placed
+    → new ≡ set slots at (record { size = (slot_at slots at).size; status = 1; request = request })
+    → Keeps (state_in shape skip new (placed + 1) taken stopped) new taken
+    × (state_in shape skip new (placed + 1) taken stopped ≡ with_request ring request)
+placed_next {shape} {skip} {slots} {placed} {taken} {stopped} request keeps view free going at_is new_is =
+    let none : stopped ≡ None = ap (λ (r : TxState). r.stopped) view ∙ going in
+    let at_last = at_is ∙ ap (λ (r : TxState). slot_of r.shape placed) (sym view) in
+    let count = count_of keeps view in
+    let places = ap (λ (r : TxState). r.shape.frame_nr) view in
+    let slot : SlotState =
+    record { size = (slot_at slots (placed % shape.frame_nr)).size; status = 1; request = request } in
+    let both = placed_by shape skip slots placed taken slot (rw none at keeps) (omega arith) refl refl in
+    rw (new_is, at_last, none) (both.0, both.1 ∙ ap (λ (r : TxState). with_request r request) (rw none at view))
 
 -- the slots of the requests after the first one
 pub behind_first : (placed taken : ℕ) → taken < placed → placed - taken ≡ suc (placed - (taken + 1))
@@ -135,20 +153,20 @@ pub front_request : (places : ℕ) (slots : List SlotState) (placed taken : ℕ)
 front_request places slots placed taken some = rw (behind_first placed taken some) refl
 
 -- the request at a place is that of its slot
-pub request_there : (shape : RingRequest) (skip : Bool) (slots : List SlotState) (placed taken : ℕ) (stopped : Option ℕ)
-    (ring : TxState) (place at : ℕ)
-    → state_in shape skip slots placed taken stopped ≡ ring → taken ≤ placed → place < length ring.requests
-    → at ≡ slot_of ring.shape (placed - (length ring.requests - place))
+pub request_there : {shape : RingRequest} {skip : Bool} {slots : List SlotState} {placed taken : ℕ} {stopped : Option ℕ} {ring : TxState}
+    {place at count left : ℕ} → Keeps (state_in shape skip slots placed taken stopped) slots taken
+    → state_in shape skip slots placed taken stopped ≡ ring → place < length ring.requests → count ≡ length ring.requests
+    → left ≡ count - place → at ≡ slot_of ring.shape (placed - left)
     → (slot_at slots at).request ≡ request_at place ring.requests
-request_there shape skip slots placed taken stopped ring place at view order less slot =
+request_there {shape} {slots} {placed} {taken} {ring} {place} {left} keeps view less is left_is slot =
+    let order = keeps.order in
     let there = requests_in shape.frame_nr slots taken (placed - taken) in
-    let count = ap (λ (r : TxState). length r.requests) (sym view)
-    ∙ length-requests_in shape.frame_nr slots taken (placed - taken) in
-    let left : placed - taken ≡ place + suc (placed - taken - place - 1) = omega (arith, count, less) in
+    let count = count_of keeps view in
+    let all : placed - taken ≡ place + suc (placed - taken - place - 1) = omega arith in
     let rest : drop place there ≡ requests_in shape.frame_nr slots (taken + place) (suc (placed - taken - place - 1)) =
-    ap (λ (n : ℕ). drop place (requests_in shape.frame_nr slots taken n)) left
+    ap (λ (n : ℕ). drop place (requests_in shape.frame_nr slots taken n)) all
     ∙ drop-requests_in shape.frame_nr slots taken place (suc (placed - taken - place - 1)) in
-    let number : placed - (length ring.requests - place) ≡ taken + place = omega (arith, count, less, order) in
+    let number : placed - left ≡ taken + place = omega arith in
     ap (λ (k : ℕ). (slot_at slots k).request)
     (slot ∙ ap (slot_of ring.shape) number ∙ ap (λ (r : TxState). slot_of r.shape (taken + place)) (sym view))
     ∙ sym (ap front_of rest)
@@ -170,46 +188,49 @@ taken_there places placed taken at some other =
     rw (behind_first placed taken some, no) refl
 
 -- the slot of the first request is taken
-pub taken_keeps : (shape : RingRequest) (skip : Bool) (slots : List SlotState) (placed taken : ℕ) (slot : SlotState)
+taken_by : (shape : RingRequest) (skip : Bool) (slots : List SlotState) (placed taken : ℕ) (slot : SlotState)
     → Keeps (state_in shape skip slots placed taken None) slots taken → taken < placed
-    → slot.size ≡ shape.frame_size → slot.status ≡ 0
+    → slot.size ≡ (slot_at slots (taken % shape.frame_nr)).size → slot.status ≡ 0
     → Keeps (state_in shape skip (set slots (taken % shape.frame_nr) slot) placed (taken + 1) None)
     (set slots (taken % shape.frame_nr) slot) (taken + 1)
-taken_keeps shape skip slots placed taken slot keeps left size status =
-    let at = taken % shape.frame_nr in
-    let count = length-set slots at slot in
-    let places = keeps.places in
-    let some = keeps.some in
-    let few = keeps.few in
-    let low = mod-lt taken some in
-    let within : at < length slots = omega arith in
-    record {
-      places = count ∙ places;
-      some = some;
-      least = keeps.least;
-      order = omega arith;
-      few = omega arith;
-      sizes = each_slot (λ k s. s.size ≡ shape.frame_size) slots at slot within size (λ k less other. keeps.sizes k less);
-      marks = each_slot (λ k s. s.status ≡ status_by None (is_among shape.frame_nr k (taken + 1) (placed - (taken + 1))) k)
-          slots at slot within
-          (status ∙ taken_here shape.frame_nr placed taken left few)
-          (λ k less other. keeps.marks k less ∙ taken_there shape.frame_nr placed taken k left other);
-      stop = tt;
-    }
-
--- the requests of a ring of which the first one was taken
-pub taken_state : (shape : RingRequest) (skip : Bool) (slots : List SlotState) (placed taken : ℕ) (slot : SlotState)
-    → Keeps (state_in shape skip slots placed taken None) slots taken → taken < placed
-    → state_in shape skip (set slots (taken % shape.frame_nr) slot) placed (taken + 1) None
-    ≡ after_taking 1 (state_in shape skip slots placed taken None)
-taken_state shape skip slots placed taken slot keeps left =
+    × (state_in shape skip (set slots (taken % shape.frame_nr) slot) placed (taken + 1) None
+    ≡ after_taking 1 (state_in shape skip slots placed taken None))
+taken_by shape skip slots placed taken slot keeps left size status =
     let n = shape.frame_nr in
     let at = taken % n in
     let few = keeps.few in
-    let some = keeps.some in
+    let within : at < length slots = place_within taken keeps in
     let past = first_is_past n taken (placed - (taken + 1)) (omega arith) in
-    let requests = other_requests n slots at slot (taken + 1) (placed - (taken + 1)) past in
-    rw (behind_first placed taken left, requests) refl
+    let requests = other_requests n slots at slot (taken + 1) (placed - (taken + 1)) past in (
+      record {
+        places = length-set slots at slot ∙ keeps.places;
+        some = keeps.some;
+        least = keeps.least;
+        order = omega arith;
+        few = omega arith;
+        sizes = each_slot (λ k s. s.size ≡ shape.frame_size) slots at slot within (size ∙ keeps.sizes at within)
+            (λ k less other. keeps.sizes k less);
+        marks = each_slot (λ k s. s.status ≡ status_by None (is_among n k (taken + 1) (placed - (taken + 1))) k) slots at slot
+            within (status ∙ taken_here n placed taken left few)
+            (λ k less other. keeps.marks k less ∙ taken_there n placed taken k left other);
+        stop = tt;
+      },
+      rw (behind_first placed taken left, requests) refl,
+    )
+
+pub taken_first : {shape : RingRequest} {skip : Bool} {slots : List SlotState} {placed taken : ℕ} {stopped : Option ℕ} {ring : TxState}
+    {new : List SlotState} {at : ℕ} → Keeps (state_in shape skip slots placed taken stopped) slots taken
+    → state_in shape skip slots placed taken stopped ≡ ring → 0 < length ring.requests → ring.stopped ≡ None
+    → at ≡ slot_of ring.shape taken → new ≡ set slots at (record (slot_at slots at) { status = 0 })
+    → Keeps (state_in shape skip new placed (taken + 1) stopped) new (taken + 1)
+    × (state_in shape skip new placed (taken + 1) stopped ≡ after_taking 1 ring)
+taken_first {shape} {skip} {slots} {placed} {taken} {stopped} keeps view some going at_is new_is =
+    let none : stopped ≡ None = ap (λ (r : TxState). r.stopped) view ∙ going in
+    let at_first = at_is ∙ ap (λ (r : TxState). slot_of r.shape taken) (sym view) in
+    let count = count_of keeps view in
+    let slot : SlotState = record (slot_at slots (taken % shape.frame_nr)) { status = 0 } in
+    let both = taken_by shape skip slots placed taken slot (rw none at keeps) (omega arith) refl refl in
+    rw (new_is, at_first, none) (both.0, both.1 ∙ ap (after_taking 1) (rw none at view))
 
 -- the marks of the slots other than the one where the ring stops
 stopped_there : (stopped : Option ℕ) (shape : RingRequest) (skip : Bool) (slots : List SlotState) (placed taken at : ℕ)
@@ -232,52 +253,68 @@ same_at slots at slot within request k =
     ]
 
 -- the ring stops at the slot of the first request
-pub stopped_keeps : (shape : RingRequest) (skip : Bool) (slots : List SlotState) (placed taken : ℕ) (stopped : Option ℕ)
+stopped_by : (shape : RingRequest) (skip : Bool) (slots : List SlotState) (placed taken : ℕ) (stopped : Option ℕ)
     (slot : SlotState)
-    → Keeps (state_in shape skip slots placed taken stopped) slots taken → taken < placed → skip ≡ false
+    → Keeps (state_in shape skip slots placed taken stopped) slots taken → skip ≡ false
     → BeginsBad (room_of shape) (requests_in shape.frame_nr slots taken (placed - taken))
-    → slot.size ≡ shape.frame_size → slot.status ≡ 4 → slot.request ≡ (slot_at slots (taken % shape.frame_nr)).request
+    → slot.size ≡ (slot_at slots (taken % shape.frame_nr)).size → slot.status ≡ 4
+    → slot.request ≡ (slot_at slots (taken % shape.frame_nr)).request
     → Keeps (state_in shape skip (set slots (taken % shape.frame_nr) slot) placed taken (Some (taken % shape.frame_nr)))
     (set slots (taken % shape.frame_nr) slot) taken
-stopped_keeps shape skip slots placed taken stopped slot keeps left stays bad size status request =
+    × (state_in shape skip (set slots (taken % shape.frame_nr) slot) placed taken (Some (taken % shape.frame_nr))
+    ≡ record (state_in shape skip slots placed taken stopped) { stopped = Some (taken % shape.frame_nr) })
+stopped_by shape skip slots placed taken stopped slot keeps stays bad size status request =
     let n = shape.frame_nr in
     let at = taken % n in
-    let count = length-set slots at slot in
-    let places = keeps.places in
-    let some = keeps.some in
-    let low = mod-lt taken some in
-    let within : at < length slots = omega arith in
-    let requests = same_requests n slots (set slots at slot) taken (placed - taken) (same_at slots at slot within request) in
-    record {
-      places = count ∙ places;
-      some = some;
-      least = keeps.least;
-      order = keeps.order;
-      few = keeps.few;
-      sizes = each_slot (λ k s. s.size ≡ shape.frame_size) slots at slot within size (λ k less other. keeps.sizes k less);
-      marks = each_slot (λ k s. s.status ≡ status_by (Some at) (is_among n k taken (placed - taken)) k) slots at slot within
-          (status ∙ rw (eq-eqb at at refl) refl)
-          (λ k less other. keeps.marks k less ∙ stopped_there stopped shape skip slots placed taken k keeps.stop
-          (is_among n k taken (placed - taken)) other);
-      stop = record { front = refl; bad = subst (BeginsBad (room_of shape)) (sym requests) bad; stays = stays };
-    }
+    let within : at < length slots = place_within taken keeps in
+    let requests = same_requests n slots (set slots at slot) taken (placed - taken) (same_at slots at slot within request) in (
+      record {
+        places = length-set slots at slot ∙ keeps.places;
+        some = keeps.some;
+        least = keeps.least;
+        order = keeps.order;
+        few = keeps.few;
+        sizes = each_slot (λ k s. s.size ≡ shape.frame_size) slots at slot within (size ∙ keeps.sizes at within)
+            (λ k less other. keeps.sizes k less);
+        marks = each_slot (λ k s. s.status ≡ status_by (Some at) (is_among n k taken (placed - taken)) k) slots at slot within
+            (status ∙ rw (eq-eqb at at refl) refl)
+            (λ k less other. keeps.marks k less ∙ stopped_there stopped shape skip slots placed taken k keeps.stop
+            (is_among n k taken (placed - taken)) other);
+        stop = record { front = refl; bad = subst (BeginsBad (room_of shape)) (sym requests) bad; stays = stays };
+      },
+      rw requests refl,
+    )
 
--- the requests of a ring that stopped
-pub stopped_state : (shape : RingRequest) (skip : Bool) (slots : List SlotState) (placed taken : ℕ) (stopped : Option ℕ)
-    (slot : SlotState)
-    → Keeps (state_in shape skip slots placed taken stopped) slots taken
-    → slot.request ≡ (slot_at slots (taken % shape.frame_nr)).request
-    → state_in shape skip (set slots (taken % shape.frame_nr) slot) placed taken (Some (taken % shape.frame_nr))
-    ≡ record (state_in shape skip slots placed taken stopped) { stopped = Some (taken % shape.frame_nr) }
-stopped_state shape skip slots placed taken stopped slot keeps request =
-    let n = shape.frame_nr in
-    let places = keeps.places in
-    let some = keeps.some in
-    let low = mod-lt taken some in
-    let within : taken % n < length slots = omega arith in
-    let requests = same_requests n slots (set slots (taken % n) slot) taken (placed - taken)
-    (same_at slots (taken % n) slot within request) in
-    rw requests refl
+-- a non-empty list of requests whose first one is bad begins with a bad one
+begins_bad : (room : ℕ) (requests : List Request) → 0 < length requests → is_good room (front_of requests) ≡ false
+    → BeginsBad room requests
+begins_bad room [] some bad = absurd (omega arith)
+begins_bad room (request ∷ requests) some bad = bad
+
+pub stopped_first : {shape : RingRequest} {skip : Bool} {slots : List SlotState} {placed taken : ℕ} {stopped : Option ℕ} {ring : TxState}
+    {new : List SlotState} {at : ℕ} → Keeps (state_in shape skip slots placed taken stopped) slots taken
+    → state_in shape skip slots placed taken stopped ≡ ring → 0 < length ring.requests
+    → is_good (room_of ring.shape) (front_of ring.requests) ≡ false → ring.skip_bad ≡ false → at ≡ slot_of ring.shape taken
+    → new ≡ set slots at (record (slot_at slots at) { status = 4 })
+    → Keeps (state_in shape skip new placed taken (Some at)) new taken
+    × (state_in shape skip new placed taken (Some at) ≡ record ring { stopped = Some at }) × (at ≡ front_slot ring)
+stopped_first {shape} {skip} {slots} {placed} {taken} {stopped} {ring} keeps view some bad stays at_is new_is =
+    let order = keeps.order in
+    let at_first = at_is ∙ ap (λ (r : TxState). slot_of r.shape taken) (sym view) in
+    let count = count_of keeps view in
+    let same = ap (λ (r : TxState). r.placed) view in
+    let begins =
+    subst (λ (r : TxState). BeginsBad (room_of r.shape) r.requests) (sym view)
+    (begins_bad (room_of ring.shape) ring.requests some bad) in
+    let slot : SlotState = record (slot_at slots (taken % shape.frame_nr)) { status = 4 } in
+    let both = stopped_by shape skip slots placed taken stopped slot keeps (ap (λ (r : TxState). r.skip_bad) view ∙ stays)
+    begins refl refl refl in
+    let front : taken ≡ ring.placed - length ring.requests = omega arith in (
+      rw (new_is, at_first) both.0,
+      rw (new_is, at_first)
+          (both.1 ∙ ap (λ (r : TxState). record r { stopped = Some (taken % shape.frame_nr) }) view),
+      at_is ∙ ap (slot_of ring.shape) front,
+    )
 
 -- a ring of empty slots
 pub opened : (shape : RingRequest) (skip : Bool) → 0 < shape.frame_nr → 68 ≤ shape.frame_size
@@ -297,12 +334,6 @@ opened shape skip some least =
       marks = λ at less. ap (λ (s : SlotState). s.status) (empty at less);
       stop = tt;
     }
-
--- a non-empty list of requests whose first one is bad begins with a bad one
-pub begins_bad : (room : ℕ) (requests : List Request) → 0 < length requests → is_good room (front_of requests) ≡ false
-    → BeginsBad room requests
-begins_bad room [] some bad = absurd (omega arith)
-begins_bad room (request ∷ requests) some bad = bad
 
 -- a bad first request isn't good
 not_good : (room : ℕ) (requests : List Request) → BeginsBad room requests → is_good room (front_of requests) ≡ true → ⊥
