@@ -36,11 +36,10 @@ one_more : {X : Type 0} (done : List X) (request : X) (more : List X) → (done 
 one_more done request more = append_assoc done (request ∷ []) more
 
 -- a ring takes one more request
-takes_one : (shape : RingRequest) (skip : Bool) (done : List Request) (run : Transmitter) (request : Request)
+takes_one : {shape : RingRequest} {skip : Bool} {done : List Request} {run : Transmitter} (request : Request)
     → Carries shape skip done run → run.ring.stopped ≡ None
     → Carries shape skip (done ++ request ∷ []) (record run { ring = with_request run.ring request })
-takes_one shape skip done run request carries going =
-    let room = room_of shape in
+takes_one {done} {run} request carries going =
     let placed = carries.placed in
     let size = length-append done (request ∷ []) in
     record {
@@ -68,14 +67,13 @@ bad_alike room false requests xs ys bad = (
 )
 
 -- a ring that stopped takes no request, and sends nothing
-takes_none : (shape : RingRequest) (skip : Bool) (done : List Request) (run : Transmitter) (request : Request)
+takes_none : {shape : RingRequest} {skip : Bool} {done : List Request} {run : Transmitter} (request : Request)
     → Carries shape skip done run → (skip ≡ false) × BeginsBad (room_of shape) run.ring.requests
     → Carries shape skip (done ++ request ∷ []) run
-takes_none shape skip done run request carries bad =
-    let room = room_of shape in
+takes_none {shape} {skip} {done} {run} request carries bad =
     let placed = carries.placed in
     let size = length-append done (request ∷ []) in
-    let alike = λ (more : List Request). bad_alike room skip run.ring.requests more (request ∷ more) bad in
+    let alike = λ (more : List Request). bad_alike (room_of shape) skip run.ring.requests more (request ∷ more) bad in
     record {
       shape_is = carries.shape_is;
       skip_is = carries.skip_is;
@@ -95,12 +93,11 @@ place_by ring request None is fits free = rw (fits, is, free refl) refl
 place_by ring request (Some slot) is fits free = rw (fits, is) refl
 
 -- a run is given a request
-place_carries : (shape : RingRequest) (skip : Bool) (done : List Request) (run : Transmitter) (bytes : List ℕ)
-    (stopped : Option ℕ)
-    → run.ring.stopped ≡ stopped → Carries shape skip done run
+place_carries : {shape : RingRequest} {skip : Bool} {done : List Request} {run : Transmitter} (bytes : List ℕ)
+    (stopped : Option ℕ) → run.ring.stopped ≡ stopped → Carries shape skip done run
     → (run.ring.stopped ≡ None → (length run.ring.requests == run.ring.shape.frame_nr) ≡ false)
     → Carries shape skip (done ++ request_for (room_of shape) bytes ∷ []) (placed_in run bytes)
-place_carries shape skip done run bytes None is carries free =
+place_carries {shape} {skip} {done} {run} bytes None is carries free =
     let request = request_for (room_of run.ring.shape) bytes in
     let placed = place_by run.ring request None is (request_fits (room_of run.ring.shape) bytes) (λ none. free is) in
     let same : request ≡ request_for (room_of shape) bytes =
@@ -109,8 +106,8 @@ place_carries shape skip done run bytes None is carries free =
     (ap (λ (r : TxState). record run { ring = r }) (sym placed))
     (subst (λ (asked : Request). Carries shape skip (done ++ asked ∷ [])
     (record run { ring = with_request run.ring request })) same
-    (takes_one shape skip done run request carries is))
-place_carries shape skip done run bytes (Some slot) is carries free =
+    (takes_one request carries is))
+place_carries {shape} {skip} {done} {run} bytes (Some slot) is carries free =
     let request = request_for (room_of run.ring.shape) bytes in
     let placed = place_by run.ring request (Some slot) is (request_fits (room_of run.ring.shape) bytes)
     (λ none. free (is ∙ none)) in
@@ -119,7 +116,7 @@ place_carries shape skip done run bytes (Some slot) is carries free =
     carries.stopped in
     subst (Carries shape skip (done ++ request_for (room_of shape) bytes ∷ []))
     (ap (λ (r : TxState). record run { ring = r }) (sym placed))
-    (takes_none shape skip done run (request_for (room_of shape) bytes) carries bad)
+    (takes_none (request_for (room_of shape) bytes) carries bad)
 
 -- a ring that didn't stop left no request
 none_where : (ring : TxState) (left : List Request) → (stop_at_front ring left).stopped ≡ None → left ≡ []
@@ -132,39 +129,39 @@ none_after ring none =
     (kept left left.requests).3 ∙ none_where left left.requests none
 
 -- if all slots are requested a run sends, and then has room, or its ring stopped
-room_by : (shape : RingRequest) (skip : Bool) (done : List Request) (run : Transmitter) (full : Bool) → 0 < shape.frame_nr
+room_by : {shape : RingRequest} {skip : Bool} {done : List Request} {run : Transmitter} (full : Bool) → 0 < shape.frame_nr
     → (length run.ring.requests == run.ring.shape.frame_nr) ≡ full → Carries shape skip done run
     → Carries shape skip done (if full then sent_once run else run)
     × ((if full then sent_once run else run).ring.stopped ≡ None
     → (length (if full then sent_once run else run).ring.requests
     == (if full then sent_once run else run).ring.shape.frame_nr) ≡ false)
-room_by shape skip done run true some is carries =
-    let after_it = send_carries shape skip done run carries in (
+room_by {shape} {run} true some is carries =
+    let after_it = send_carries carries in (
       after_it,
       λ none.
           rw (none_after run.ring none, after_it.shape_is)
           (false_from_ne_true (0 == shape.frame_nr)
           (λ same. let zero : 0 ≡ shape.frame_nr = eqb-true 0 shape.frame_nr same in absurd (omega arith))),
     )
-room_by shape skip done run false some is carries = (carries, λ none. is)
+room_by false some is carries = (carries, λ none. is)
 
 -- a run is given a frame
-given_by : (shape : RingRequest) (skip : Bool) (done : List Request) (run : Transmitter) (frame : Frame) (runt : Bool)
+given_by : {shape : RingRequest} {skip : Bool} {done : List Request} {run : Transmitter} (frame : Frame) (runt : Bool)
     → 0 < shape.frame_nr
     → is_runt frame ≡ runt → Carries shape skip done run
     → Carries shape skip (done ++ (if runt then [] else request_for (room_of shape) frame.bytes ∷ []))
     (if runt then run else placed_in (with_room run) frame.bytes)
-given_by shape skip done run frame true some is carries = rw append-nil carries
-given_by shape skip done run frame false some is carries =
-    let made = room_by shape skip done run (length run.ring.requests == run.ring.shape.frame_nr) some refl carries in
-    place_carries shape skip done (with_room run) frame.bytes (with_room run).ring.stopped refl made.0 made.1
+given_by frame true some is carries = rw append-nil carries
+given_by {run} frame false some is carries =
+    let made = room_by (length run.ring.requests == run.ring.shape.frame_nr) some refl carries in
+    place_carries frame.bytes (with_room run).ring.stopped refl made.0 made.1
 
-pub given : (shape : RingRequest) (skip : Bool) (frames : List Frame) (run : Transmitter) (frame : Frame) → 0 < shape.frame_nr
+pub given : {shape : RingRequest} {skip : Bool} {run : Transmitter} (frames : List Frame) (frame : Frame) → 0 < shape.frame_nr
     → Carries shape skip (requests_of (room_of shape) frames) run
     → Carries shape skip (requests_of (room_of shape) (frames ++ frame ∷ [])) (with_frame run frame)
-given shape skip frames run frame some carries =
+given {shape} frames frame some carries =
     rw (requests-append (room_of shape) frames (frame ∷ []))
-    (given_by shape skip (requests_of (room_of shape) frames) run frame (is_runt frame) some refl carries)
+    (given_by frame (is_runt frame) some refl carries)
 
 -- nothing is sent of what a send leaves
 nothing_more : (room : ℕ) (skip : Bool) (requests : List Request)
@@ -193,12 +190,12 @@ pub record Comes (room : ℕ) (skip : Bool) (done : List Request) (run : Transmi
   pub skipped : run.skipped ≡ over_by room skip done
   pub stopped : is_some run.ring.stopped ≡ stops_by room skip done
 
-pub ended : (shape : RingRequest) (skip : Bool) (done : List Request) (run : Transmitter) → Carries shape skip done run
+pub ended : {shape : RingRequest} {skip : Bool} {done : List Request} {run : Transmitter} → Carries shape skip done run
     → Comes (room_of shape) skip done (sent_once run)
-ended shape skip done run carries =
+ended {shape} {skip} {done} {run} carries =
     let room = room_of shape in
-    let last = send_carries shape skip done run carries in
-    let left = left_by_send shape skip done run carries in
+    let last = send_carries carries in
+    let left = left_by_send carries in
     let none = nothing_more room skip run.ring.requests in
     let all : done ++ [] ≡ done = append-nil done in
     let packets : (sent_once run).packets ++ sent_by room skip (left_in room skip run.ring.requests ++ [])
@@ -289,10 +286,10 @@ few_over : (room : ℕ) (skip : Bool) (requests : List Request) → over_by room
 few_over room true requests = few_bad room requests
 few_over room false requests = rw (bad_in_good room requests) (omega arith)
 
-pub few_of : (shape : RingRequest) (skip : Bool) (frames : List Frame) (run : Transmitter)
+pub few_of : {shape : RingRequest} {skip : Bool} {run : Transmitter} (frames : List Frame)
     → Carries shape skip (requests_of (room_of shape) frames) run
     → (run.ring.placed ≤ length frames) × (run.skipped ≤ length frames)
-few_of shape skip frames run carries =
+few_of {shape} {skip} frames carries =
     let few = few_requests (room_of shape) frames in
     let placed = carries.placed in
     let all = append-nil (requests_of (room_of shape) frames) in

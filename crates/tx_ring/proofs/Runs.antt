@@ -76,9 +76,9 @@ kept ring [] = (refl, refl, refl, refl)
 kept ring (request ∷ requests) = (refl, refl, refl, refl)
 
 -- the requests that a send leaves
-left_after : (shape : RingRequest) (skip : Bool) (done : List Request) (run : Transmitter) → Carries shape skip done run
+left_after : {shape : RingRequest} {skip : Bool} {done : List Request} {run : Transmitter} → Carries shape skip done run
     → drop (length (taken_by run.ring)) run.ring.requests ≡ left_in (room_of shape) skip run.ring.requests
-left_after shape skip done run carries =
+left_after {shape} {skip} {run} carries =
     rw (carries.shape_is, carries.skip_is) (left_is (room_of shape) skip run.ring.requests)
 
 never_empty : {request : Request} {requests : List Request} → request ∷ requests ≡ [] → ⊥
@@ -124,14 +124,14 @@ pub record Left (shape : RingRequest) (skip : Bool) (old new : TxState) : Type 0
   pub requests : new.requests ≡ left_in (room_of shape) skip old.requests
   pub stopped : IfSome new.stopped (λ slot. (skip ≡ false) × BeginsBad (room_of shape) new.requests)
 
-pub left_by_send : (shape : RingRequest) (skip : Bool) (done : List Request) (run : Transmitter) → Carries shape skip done run
+pub left_by_send : {shape : RingRequest} {skip : Bool} {done : List Request} {run : Transmitter} → Carries shape skip done run
     → Left shape skip run.ring (after_send run.ring)
-left_by_send shape skip done run carries =
+left_by_send {shape} {skip} {run} carries =
     let ring = run.ring in
     let room = room_of shape in
     let left = after_taking (length (taken_by ring)) ring in
     let parts = kept left left.requests in
-    let rest : left.requests ≡ left_in room skip ring.requests = left_after shape skip done run carries in
+    let rest : left.requests ≡ left_in room skip ring.requests = left_after carries in
     let begins : (left.requests ≡ []) ⊎ ((skip ≡ false) × BeginsBad room left.requests) =
     subst (λ (requests : List Request). (requests ≡ []) ⊎ ((skip ≡ false) × BeginsBad room requests)) (sym rest)
     (left_begins room skip ring.requests) in
@@ -149,11 +149,11 @@ left_by_send shape skip done run carries =
     }
 
 -- a run still represents its requests after a send
-pub send_carries : (shape : RingRequest) (skip : Bool) (done : List Request) (run : Transmitter) → Carries shape skip done run
+pub send_carries : {shape : RingRequest} {skip : Bool} {done : List Request} {run : Transmitter} → Carries shape skip done run
     → Carries shape skip done (sent_once run)
-send_carries shape skip done run carries =
+send_carries {shape} {skip} {run} carries =
     let room = room_of shape in
-    let left = left_by_send shape skip done run carries in
+    let left = left_by_send carries in
     let requests = run.ring.requests in
     let sent : packets_sent run.ring ≡ sent_by room skip requests = rw (carries.shape_is, carries.skip_is) refl in
     let over : bad_in (room_of run.ring.shape) (taken_by run.ring) ≡ over_by room skip requests =

@@ -13,7 +13,7 @@ use Rattle.tx_ring.specs.declared.error.SendError.TheVariants.{BadSlot}
 use Rattle.tx_ring.specs.declared.error.TxError.TheVariants.{TooLong, Stopped}
 use Rattle.tx_ring.specs.declared.ring.Sent.{Sent}
 use Rattle.tx_ring.proofs.Runs.{kept, left_begins}
-use Rattle.tx_ring.proofs.Sends.{stopped_answer}
+use Rattle.tx_ring.proofs.Sends.{stopped_by}
 use Rattle.tx_ring.proofs.Splits.{after_good, left_in, left_is, taken_in}
 use Rattle.tx_ring.proofs.Takings.{begun_bad}
 
@@ -77,7 +77,7 @@ stopped_for_good ring slot told =
     } in
     let keeps : IfSome next.stopped (HasStopped next (next.placed - length next.requests)) =
     subst (λ (o : Option ℕ). IfSome o (HasStopped next (next.placed - length next.requests))) (sym at.2) stop in
-    let stays = stopped_answer next (next.placed - length next.requests) slot keeps at.2 refl in
+    let stays = stopped_by next (next.placed - length next.requests) slot keeps at.2 refl in
     let taken : taken_by next ≡ [] =
     ap (λ (skip : Bool). if skip then next.requests else good_front (room_of next.shape) next.requests) stop.stays
     ∙ (begun_bad (room_of next.shape) next.requests stop.bad).1 in

@@ -16,8 +16,7 @@ loop-frame-init c = rw (c.in_ok-new.ensures, c.new-2.ensures) (starts c.args.sha
 pub put-requires-clause-placed : goal.put-requires-clause-placed
 put-requires-clause-placed c =
     let items = c.as_slice-frame-items.result.now in
-    let few = few_of c.args.shape c.args.skip_bad (take c.loop-frame.frame-index items) c.loop-frame.run
-    c.loop-frame.invariant in
+    let few = few_of (take c.loop-frame.frame-index items) c.loop-frame.invariant in
     let size = length-take-le c.loop-frame.frame-index items (omega arith) in
     let all = ap length c.as_slice-frame-items.ensures in
     omega (arith, few.0)
@@ -25,8 +24,7 @@ put-requires-clause-placed c =
 pub put-requires-clause-few : goal.put-requires-clause-few
 put-requires-clause-few c =
     let items = c.as_slice-frame-items.result.now in
-    let few = few_of c.args.shape c.args.skip_bad (take c.loop-frame.frame-index items) c.loop-frame.run
-    c.loop-frame.invariant in
+    let few = few_of (take c.loop-frame.frame-index items) c.loop-frame.invariant in
     let size = length-take-le c.loop-frame.frame-index items (omega arith) in
     let all = ap length c.as_slice-frame-items.ensures in
     omega (arith, few.1)
@@ -34,8 +32,7 @@ put-requires-clause-few c =
 pub send-requires : goal.send-requires
 send-requires c =
     let items = c.as_slice-frame-items.result.now in
-    let few = few_of c.args.shape c.args.skip_bad (take c.loop-frame.frame-index items) c.loop-frame.run
-    c.loop-frame.invariant in
+    let few = few_of (take c.loop-frame.frame-index items) c.loop-frame.invariant in
     let size = length-take-le c.loop-frame.frame-index items (omega arith) in
     let all = ap length c.as_slice-frame-items.ensures in
     omega (arith, few.1)
@@ -48,8 +45,7 @@ loop-frame-preserved c =
     take_more items c.loop-frame.frame-index frame (omega arith)
     ∙ ap (λ (last : Frame). take c.loop-frame.frame-index items ++ last ∷ []) (sym c.frame-item.is) in
     rw (more, c.in_ok-put.ensures)
-    (given c.args.shape c.args.skip_bad (take c.loop-frame.frame-index items) c.loop-frame.run frame
-    (some_slots c.args.shape c.requires.transmit) c.loop-frame.invariant)
+    (given (take c.loop-frame.frame-index items) frame (some_slots c.args.shape c.requires.transmit) c.loop-frame.invariant)
 
 pub returns : goal.returns
 returns c =
@@ -62,8 +58,8 @@ returns c =
     subst (λ (frames : List Frame). Carries shape skip (requests_of (room_of shape) frames) c.loop-frame.run) whole
     c.loop-frame.invariant in
     let last : c.send.new.self ≡ sent_once c.loop-frame.run = c.in_ok-send.ensures in
-    let comes = ended shape skip (requests_of (room_of shape) c.args.frames.now) c.loop-frame.run carries in
-    let same = (send_carries shape skip (requests_of (room_of shape) c.args.frames.now) c.loop-frame.run carries).shape_is in
+    let comes = ended carries in
+    let same = (send_carries carries).shape_is in
     let least : 20 ≤ room_of (sent_once c.loop-frame.run).ring.shape =
     subst (λ (run : Transmitter). 20 ≤ room_of run.ring.shape) last c.tell.ensures.least in
     let small : room_of (sent_once c.loop-frame.run).ring.shape + 48 < 2 ^ 32 =
