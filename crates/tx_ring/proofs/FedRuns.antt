@@ -1,5 +1,5 @@
 -- A run is given one frame after another, and ends with a last send.
-use Rattle.std.proofs.Common.{◌≡◌, ℕ, suc, ◌+◌, ◌^◌, ◌<◌, ◌≤◌, Bool, false, true, List, [], ◌∷◌, ◌++◌, length, Option, None}
+use Rattle.std.proofs.Common.{◌≡◌, ℕ, ◌+◌, ◌^◌, ◌<◌, ◌≤◌, Bool, false, true, List, [], ◌∷◌, ◌++◌, length, Option, None}
 use Rattle.std.proofs.Common.{Some, IfSome, true≢false, refl, sym, ap, subst, ◌∙◌, inl, inr, arith}
 use Rattle.std.specs.Prelude.{if◌then◌else◌, is_some, nat_lt, ◌==◌}
 use Rattle.std.proofs.lemmas.Bool.{eqb-true, false_from_ne_true}
@@ -9,7 +9,7 @@ use Rattle.frame_view.specs.declared.frames.Packet.{Packet}
 use Rattle.tp_layout.specs.declared.requests.RingRequest.{RingRequest}
 use Rattle.tx_ring.specs.KeptSlots.{BeginsBad}
 use Rattle.tx_ring.specs.Rings.{TxState, after_place, new_ring, room_of, with_request}
-use Rattle.tx_ring.specs.Sends.{after_send, after_taking, bad_in, is_good, stop_at_front, taken_by}
+use Rattle.tx_ring.specs.Sends.{after_send, after_taking, bad_in, stop_at_front, taken_by}
 use Rattle.tx_ring.specs.Slots.{Request}
 use Rattle.tx_ring.specs.Transmission.{first_long, is_runt, long_in, plain_packets, placed_in, reached, request_for}
 use Rattle.tx_ring.specs.Transmission.{requests_of, sent_once, told_of, transmitted_of, with_frame, with_room}
@@ -275,12 +275,7 @@ told_is shape skip frames run same some small comes =
 few_bad : (room : ℕ) (requests : List Request) → bad_in room requests ≤ length requests
 few_bad room [] = omega arith
 few_bad room (request ∷ requests) =
-    let rest = few_bad room requests in
-    elim (is_good room request) as
-    (λ v. (if v then bad_in room requests else bad_in room requests + 1) ≤ suc (length requests)) [
-      | true ↦ omega arith
-      | false ↦ omega arith
-    ]
+    grind (arith, few_bad room requests)
 
 few_over : (room : ℕ) (skip : Bool) (requests : List Request) → over_by room skip requests ≤ length requests
 few_over room true requests = few_bad room requests

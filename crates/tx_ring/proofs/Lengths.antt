@@ -1,5 +1,5 @@
 -- The kinds of frames, what is placed of each, and its result.
-use Rattle.std.proofs.Common.{◌≡◌, ℕ, suc, ◌+◌, ◌-◌, ◌^◌, ◌<◌, ◌≤◌, Bool, false, true, ◌⊎◌, List, [], ◌∷◌, ◌++◌, length, take}
+use Rattle.std.proofs.Common.{◌≡◌, ℕ, ◌+◌, ◌-◌, ◌^◌, ◌<◌, ◌≤◌, Bool, false, true, ◌⊎◌, List, [], ◌∷◌, ◌++◌, length, take}
 use Rattle.std.proofs.Common.{replicate, min, refl, ap, ◌∙◌, inl, inr, arith}
 use Rattle.std.specs.Prelude.{if◌then◌else◌, is_some, nat_lt, nat_le, ◌&&◌}
 use Rattle.std.proofs.lemmas.Bool.{cases_lt, le-leb, le-ltb, lt-leb, lt-ltb}
@@ -9,7 +9,6 @@ use Rattle.frame_view.specs.PlainPacket.{plain_of}
 use Rattle.frame_view.specs.declared.frames.Frame.{Frame}
 use Rattle.tx_ring.specs.Rings.{request_of}
 use Rattle.tx_ring.specs.Sends.{bad_in, good_front, is_good, packet_of, packets_of}
-use Rattle.tx_ring.specs.Slots.{Request}
 use Rattle.tx_ring.specs.Transmission.{before_long, first_long, is_fitting, is_long, is_runt, long_in, plain_packets}
 use Rattle.tx_ring.specs.Transmission.{request_for, requests_of}
 use Rattle.tx_ring.proofs.Splits.{has_bad}
@@ -150,20 +149,9 @@ stops_all room (frame ∷ frames) some small =
 pub few_requests : (room : ℕ) (frames : List Frame) → length (requests_of room frames) ≤ length frames
 few_requests room [] = omega arith
 few_requests room (frame ∷ frames) =
-    let rest = few_requests room frames in
-    elim (is_runt frame) as
-    (λ v. length (if v then requests_of room frames else request_for room frame.bytes ∷ requests_of room frames) ≤ suc
-    (length frames)) [
-      | true ↦ omega arith
-      | false ↦ omega arith
-    ]
+    grind (arith, few_requests room frames)
 
 pub requests-append : (room : ℕ) (xs ys : List Frame) → requests_of room (xs ++ ys) ≡ requests_of room xs ++ requests_of room ys
 requests-append room [] ys = refl
 requests-append room (x ∷ xs) ys =
-    elim (is_runt x) as
-    (λ v. (if v then requests_of room (xs ++ ys) else request_for room x.bytes ∷ requests_of room (xs ++ ys))
-    ≡ (if v then requests_of room xs else request_for room x.bytes ∷ requests_of room xs) ++ requests_of room ys) [
-      | true ↦ requests-append room xs ys
-      | false ↦ ap (λ (rest : List Request). request_for room x.bytes ∷ rest) (requests-append room xs ys)
-    ]
+    grind (arith, requests-append room xs ys)

@@ -1,11 +1,11 @@
 -- The result of requests is that of those that a send takes, and then that of those that it leaves.
-use Rattle.std.proofs.Common.{◌≡◌, ℕ, ◌+◌, Bool, false, true, ◌⊎◌, List, [], ◌∷◌, ◌++◌, length, drop, refl, sym, ap, inl, inr}
+use Rattle.std.proofs.Common.{◌≡◌, ℕ, ◌+◌, Bool, false, true, ◌⊎◌, List, [], ◌∷◌, ◌++◌, length, drop, refl, sym, inl, inr}
 use Rattle.std.proofs.Common.{arith}
 use Rattle.std.specs.Prelude.{if◌then◌else◌}
 use Rattle.std.proofs.Math.Seq.{drop-length}
 use Rattle.frame_view.specs.declared.frames.Packet.{Packet}
 use Rattle.tx_ring.specs.KeptSlots.{BeginsBad}
-use Rattle.tx_ring.specs.Sends.{bad_in, good_front, is_good, packet_of, packets_of}
+use Rattle.tx_ring.specs.Sends.{bad_in, good_front, is_good, packets_of}
 use Rattle.tx_ring.specs.Slots.{Request}
 
 -- what a send takes of requests, and what it leaves
@@ -38,23 +38,14 @@ stops_by room skip requests = if skip then false else has_bad room requests
 pub bad_in_good : (room : ℕ) (requests : List Request) → bad_in room (good_front room requests) ≡ 0
 bad_in_good room [] = refl
 bad_in_good room (request ∷ requests) =
-    elim (is_good room request) as (λ v. v ≡ is_good room request
-    → bad_in room (if v then request ∷ good_front room requests else []) ≡ 0) [
-      | true ↦ λ good. rw (sym good) (bad_in_good room requests)
-      | false ↦ λ bad. refl
-    ] refl
+    grind (arith, bad_in_good room requests)
 
 -- what a send leaves after what it takes
 pub dropped_good : (room : ℕ) (requests : List Request)
     → drop (length (good_front room requests)) requests ≡ after_good room requests
 dropped_good room [] = refl
 dropped_good room (request ∷ requests) =
-    elim (is_good room request) as
-    (λ v. drop (length (if v then request ∷ good_front room requests else [])) (request ∷ requests)
-    ≡ (if v then after_good room requests else request ∷ requests)) [
-      | true ↦ dropped_good room requests
-      | false ↦ refl
-    ]
+    grind (arith, dropped_good room requests)
 
 pub left_is : (room : ℕ) (skip : Bool) (requests : List Request)
     → drop (length (taken_in room skip requests)) requests ≡ left_in room skip requests
@@ -64,21 +55,12 @@ left_is room false requests = dropped_good room requests
 pub packets_append : (room : ℕ) (xs ys : List Request) → packets_of room (xs ++ ys) ≡ packets_of room xs ++ packets_of room ys
 packets_append room [] ys = refl
 packets_append room (x ∷ xs) ys =
-    elim (is_good room x) as (λ v. (if v then packet_of x ∷ packets_of room (xs ++ ys) else packets_of room (xs ++ ys))
-    ≡ (if v then packet_of x ∷ packets_of room xs else packets_of room xs) ++ packets_of room ys) [
-      | true ↦ ap (λ (rest : List Packet). packet_of x ∷ rest) (packets_append room xs ys)
-      | false ↦ packets_append room xs ys
-    ]
+    grind (arith, packets_append room xs ys)
 
 pub bad_append : (room : ℕ) (xs ys : List Request) → bad_in room (xs ++ ys) ≡ bad_in room xs + bad_in room ys
 bad_append room [] ys = omega arith
 bad_append room (x ∷ xs) ys =
-    let rest = bad_append room xs ys in
-    elim (is_good room x) as (λ v. (if v then bad_in room (xs ++ ys) else bad_in room (xs ++ ys) + 1)
-    ≡ (if v then bad_in room xs else bad_in room xs + 1) + bad_in room ys) [
-      | true ↦ rest
-      | false ↦ omega (arith, rest)
-    ]
+    grind (arith, bad_append room xs ys)
 
 -- the packets sent for requests are those of the ones that are taken, and then those of the rest
 pub sent_good : (room : ℕ) (requests more : List Request)
@@ -86,13 +68,7 @@ pub sent_good : (room : ℕ) (requests more : List Request)
     ++ packets_of room (good_front room (after_good room requests ++ more))
 sent_good room [] more = refl
 sent_good room (request ∷ requests) more =
-    elim (is_good room request) as (λ v. v ≡ is_good room request
-    → packets_of room (if v then request ∷ good_front room (requests ++ more) else [])
-    ≡ packets_of room (if v then request ∷ good_front room requests else [])
-    ++ packets_of room (good_front room ((if v then after_good room requests else request ∷ requests) ++ more))) [
-      | true ↦ λ good. rw (sym good) (ap (λ (rest : List Packet). packet_of request ∷ rest) (sent_good room requests more))
-      | false ↦ λ bad. rw (sym bad) refl
-    ] refl
+    grind (arith, sent_good room requests more)
 
 pub sent_split : (room : ℕ) (skip : Bool) (requests more : List Request)
     → sent_by room skip (requests ++ more) ≡ sent_by room skip requests
@@ -114,12 +90,7 @@ pub stops_good : (room : ℕ) (requests more : List Request)
     → has_bad room (requests ++ more) ≡ has_bad room (after_good room requests ++ more)
 stops_good room [] more = refl
 stops_good room (request ∷ requests) more =
-    elim (is_good room request) as (λ v. v ≡ is_good room request
-    → (if v then has_bad room (requests ++ more) else true)
-    ≡ has_bad room ((if v then after_good room requests else request ∷ requests) ++ more)) [
-      | true ↦ λ good. stops_good room requests more
-      | false ↦ λ bad. rw (sym bad) refl
-    ] refl
+    grind (arith, stops_good room requests more)
 
 pub stops_split : (room : ℕ) (skip : Bool) (requests more : List Request)
     → stops_by room skip (requests ++ more) ≡ stops_by room skip (left_in room skip requests ++ more)

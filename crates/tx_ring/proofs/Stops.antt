@@ -1,12 +1,12 @@
 -- What a send leaves, and that a ring stopped by it stays as it is.
 use Rattle.std.proofs.Common.{◌≡◌, ℕ, ◌-◌, Bool, false, true, List, [], ◌∷◌, ◌++◌, length, Option, Some, IfSome, Err, refl, sym}
-use Rattle.std.proofs.Common.{ap, subst, ◌∙◌, inl, inr}
+use Rattle.std.proofs.Common.{ap, subst, ◌∙◌, inl, inr, arith}
 use Rattle.std.specs.Prelude.{if◌then◌else◌, nat_lt}
 use Rattle.std.proofs.lemmas.List.{append-nil}
 use Rattle.tx_ring.specs.KeptSlots.{BeginsBad, HasStopped}
 use Rattle.tx_ring.specs.Laws.{HasStoppedAt}
 use Rattle.tx_ring.specs.Rings.{TxState, front_slot, place_answer, room_of, slot_of}
-use Rattle.tx_ring.specs.Sends.{after_send, after_taking, answer_with, counts_of, good_front, is_good, packets_of, send_answer}
+use Rattle.tx_ring.specs.Sends.{after_send, after_taking, answer_with, counts_of, good_front, packets_of, send_answer}
 use Rattle.tx_ring.specs.Sends.{stop_at_front, taken_by}
 use Rattle.tx_ring.specs.Slots.{Request}
 use Rattle.tx_ring.specs.declared.error.SendError.TheVariants.{BadSlot}
@@ -21,11 +21,7 @@ use Rattle.tx_ring.proofs.Takings.{begun_bad}
 good_and_left : (room : ℕ) (requests : List Request) → good_front room requests ++ after_good room requests ≡ requests
 good_and_left room [] = refl
 good_and_left room (request ∷ requests) =
-    elim (is_good room request) as (λ v. (if v then request ∷ good_front room requests else [])
-    ++ (if v then after_good room requests else request ∷ requests) ≡ request ∷ requests) [
-      | true ↦ ap (λ (rest : List Request). request ∷ rest) (good_and_left room requests)
-      | false ↦ refl
-    ]
+    grind (arith, good_and_left room requests)
 
 taken_and_left : (room : ℕ) (skip : Bool) (requests : List Request)
     → taken_in room skip requests ++ left_in room skip requests ≡ requests

@@ -1,11 +1,12 @@
 -- Requests that are taken from the start: their result, and what a bad one leaves after it.
-use Rattle.std.proofs.Common.{◌≡◌, ℕ, suc, ◌+◌, ◌<◌, Bool, false, true, List, [], ◌∷◌, ◌++◌, length, drop, Option, None, Some}
+use Rattle.std.proofs.Common.{◌≡◌, ℕ, ◌+◌, ◌<◌, Bool, false, true, List, [], ◌∷◌, ◌++◌, length, drop, Option, None, Some}
 use Rattle.std.proofs.Common.{IfSome, refl, ap, subst, arith}
 use Rattle.std.specs.Prelude.{if◌then◌else◌}
-use Rattle.frame_view.specs.declared.frames.Packet.{Packet}
+use Rattle.std.proofs.lemmas.List.{append-nil}
 use Rattle.tx_ring.specs.KeptSlots.{BeginsBad}
 use Rattle.tx_ring.specs.Sends.{bad_in, front_of, good_front, is_good, packet_of, packets_of}
 use Rattle.tx_ring.specs.Slots.{Request}
+use Rattle.tx_ring.proofs.Splits.{bad_append, packets_append}
 
 -- requests that are all good
 abbrev pub AllGood : ℕ → List Request → Type 0
@@ -19,35 +20,19 @@ good_append room (first ∷ done) request all good = (all.0, good_append room do
 
 pub packets_good : (room : ℕ) (done : List Request) (request : Request) → is_good room request ≡ true
     → packets_of room (done ++ request ∷ []) ≡ packets_of room done ++ packet_of request ∷ []
-packets_good room [] request good = rw good refl
-packets_good room (first ∷ done) request good =
-    elim (is_good room first) as
-    (λ v. (if v then packet_of first ∷ packets_of room (done ++ request ∷ []) else packets_of room (done ++ request ∷ []))
-    ≡ (if v then packet_of first ∷ packets_of room done else packets_of room done) ++ packet_of request ∷ []) [
-      | true ↦ ap (λ (rest : List Packet). packet_of first ∷ rest) (packets_good room done request good)
-      | false ↦ packets_good room done request good
-    ]
+packets_good room done request good = rw (packets_append room done (request ∷ []), good) refl
 
 pub packets_bad : (room : ℕ) (done : List Request) (request : Request) → is_good room request ≡ false
     → packets_of room (done ++ request ∷ []) ≡ packets_of room done
-packets_bad room [] request bad = rw bad refl
-packets_bad room (first ∷ done) request bad = rw (packets_bad room done request bad) refl
+packets_bad room done request bad = rw (packets_append room done (request ∷ []), bad) (append-nil (packets_of room done))
 
 pub bad_good : (room : ℕ) (done : List Request) (request : Request) → is_good room request ≡ true
     → bad_in room (done ++ request ∷ []) ≡ bad_in room done
-bad_good room [] request good = rw good refl
-bad_good room (first ∷ done) request good = rw (bad_good room done request good) refl
+bad_good room done request good = rw (bad_append room done (request ∷ []), good) (omega arith)
 
 pub bad_bad : (room : ℕ) (done : List Request) (request : Request) → is_good room request ≡ false
     → bad_in room (done ++ request ∷ []) ≡ bad_in room done + 1
-bad_bad room [] request bad = rw bad refl
-bad_bad room (first ∷ done) request bad =
-    elim (is_good room first) as
-    (λ v. (if v then bad_in room (done ++ request ∷ []) else bad_in room (done ++ request ∷ []) + 1)
-    ≡ (if v then bad_in room done else bad_in room done + 1) + 1) [
-      | true ↦ bad_bad room done request bad
-      | false ↦ ap (λ (n : ℕ). n + 1) (bad_bad room done request bad)
-    ]
+bad_bad room done request bad = rw (bad_append room done (request ∷ []), bad) (omega arith)
 
 -- a non-empty list of requests is the first one and the rest
 pub first_and_rest : (requests : List Request) → 0 < length requests → requests ≡ front_of requests ∷ drop 1 requests
@@ -94,13 +79,7 @@ pub each_counted : (room : ℕ) (requests : List Request)
     → length (packets_of room requests) + bad_in room requests ≡ length requests
 each_counted room [] = refl
 each_counted room (request ∷ requests) =
-    let rest = each_counted room requests in
-    elim (is_good room request) as
-    (λ v. length (if v then packet_of request ∷ packets_of room requests else packets_of room requests)
-    + (if v then bad_in room requests else bad_in room requests + 1) ≡ suc (length requests)) [
-      | true ↦ omega arith
-      | false ↦ omega arith
-    ]
+    grind (arith, each_counted room requests)
 
 pub begun_bad : (room : ℕ) (requests : List Request) → BeginsBad room requests
     → (0 < length requests) × (good_front room requests ≡ [])
