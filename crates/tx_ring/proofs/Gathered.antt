@@ -2,8 +2,7 @@
 use Rattle.std.proofs.Common.{◌≡◌, ℕ, suc, ◌+◌, ◌-◌, ◌*◌, ◌/◌, ◌^◌, ◌<◌, ◌≤◌, Bool, false, true, List, [], ◌∷◌, ◌++◌, length}
 use Rattle.std.proofs.Common.{drop, replicate, Option, None, Some, Result, Ok, Err, IfOk, true≢false, refl, sym, ap, subst, ◌∙◌}
 use Rattle.std.proofs.Common.{arith}
-use Rattle.std.specs.Prelude.{◌==◌, ◌&&◌, nat_le, if◌then◌else◌}
-use Rattle.std.proofs.lemmas.Bool.{leb-true}
+use Rattle.std.proofs.lemmas.Bool.Decides.{nat_tests}
 use Rattle.std.proofs.lemmas.List.{append-nil, append_assoc, drop-drop, length-append, length-drop, length-replicate}
 use Rattle.std.proofs.lemmas.List.{length-take-le}
 use Rattle.std.proofs.Math.ListN.{drop_of_length-le}
@@ -46,14 +45,7 @@ length-frame request =
 -- a good request fits
 good_fits : (room : ℕ) (request : Request) → is_good room request ≡ true → request.length ≤ room
 good_fits room request good =
-    elim (request.next_offset == 0) as (λ a. a && (nat_le 14 request.length && nat_le request.length room) ≡ true
-    → request.length ≤ room) [
-      | false ↦ λ is. absurd (true≢false (sym is))
-      | true ↦ λ is. elim (nat_le 14 request.length) as (λ b. b && nat_le request.length room ≡ true → request.length ≤ room) [
-        | false ↦ λ is. absurd (true≢false (sym is))
-        | true ↦ λ is. leb-true request.length room is
-      ] is
-    ] good
+    grind (arith, nat_tests)
 
 -- the frames of requests whose first one is good, and of those whose first one is bad
 pub good_next : (room : ℕ) (requests : List Request) → is_good room (front_of requests) ≡ true
@@ -130,16 +122,7 @@ frames_few room [] = omega arith
 frames_few room (request ∷ requests) =
     let rest = frames_few room requests in
     let one : suc (length requests) * room ≡ room + length requests * room = omega arith in
-    elim (is_good room request) as (λ v. v ≡ is_good room request
-    → length (if v then frame_of request ++ frames_in room requests else frames_in room requests) ≤ suc
-    (length requests) * room) [
-      | true ↦ λ good.
-          let size = length-append (frame_of request) (frames_in room requests) in
-          let frame = length-frame request in
-          let fits = good_fits room request (sym good) in
-          omega (arith, rest, one, size, frame, fits)
-      | false ↦ λ bad. omega (arith, rest, one)
-    ] refl
+    grind (arith, length-append (frame_of request) (frames_in room requests), length-frame request, good_fits room request)
 
 -- the frames of all slots of a ring are few bytes
 pub frames_short : (shape : RingRequest) (requests : List Request) → IsShape shape → length requests ≤ shape.frame_nr

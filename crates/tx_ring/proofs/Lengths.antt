@@ -3,6 +3,7 @@ use Rattle.std.proofs.Common.{◌≡◌, ℕ, ◌+◌, ◌-◌, ◌^◌, ◌<◌
 use Rattle.std.proofs.Common.{replicate, min, refl, ap, ◌∙◌, inl, inr, arith}
 use Rattle.std.specs.Prelude.{if◌then◌else◌, is_some, nat_lt, nat_le, ◌&&◌}
 use Rattle.std.proofs.lemmas.Bool.{cases_lt, le-leb, le-ltb, lt-leb, lt-ltb}
+use Rattle.std.proofs.lemmas.Bool.Decides.{nat_tests}
 use Rattle.std.proofs.lemmas.List.{length-take-le}
 use Rattle.std.proofs.Math.Seq.{take-append_seam}
 use Rattle.frame_view.specs.PlainPacket.{plain_of}
@@ -62,12 +63,7 @@ kind_of room frame some =
 -- what is placed of a frame fits into a slot
 pub request_fits : (room : ℕ) (bytes : List ℕ) → nat_lt room (length (request_for room bytes).bytes) ≡ false
 request_fits room bytes =
-    elim (cases_lt room (length bytes)) [
-      | inl more ↦
-          let size : length (take room bytes) ≡ room = length-take-le room bytes (omega arith) in
-          rw (lt-ltb room (length bytes) more, size, le-ltb room room (omega arith)) refl
-      | inr most ↦ rw (le-ltb room (length bytes) most, le-ltb room (length bytes) most) refl
-    ]
+    grind (arith, nat_tests, length-take-le room bytes)
 
 -- a frame that fits is a good request, whose packet is its own
 good_kind : (room : ℕ) (frame : Frame) → Fits room frame → is_good room (request_for room frame.bytes) ≡ true

@@ -93,13 +93,7 @@ unwritten_slot size count written at bytes past less =
 
 -- zeros are slots that nothing was written into
 empty_sound : (size : ℕ) → 48 ≤ size → IsSound (empty_slot size)
-empty_sound size least = record {
-  status = omega arith;
-  next_offset = omega arith;
-  asked = omega arith;
-  given = omega arith;
-  fits = least;
-}
+empty_sound size least = grind arith
 
 zeros_slot : (size : ℕ) → 48 ≤ size → slot_in (replicate size 0) ≡ empty_slot size
 zeros_slot size least = ap slot_in (zeros_empty size least) ∙ told (empty_slot size) (empty_sound size least)

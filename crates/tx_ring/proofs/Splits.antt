@@ -1,5 +1,5 @@
 -- The result of requests is that of those that a send takes, and then that of those that it leaves.
-use Rattle.std.proofs.Common.{◌≡◌, ℕ, ◌+◌, Bool, false, true, ◌⊎◌, List, [], ◌∷◌, ◌++◌, length, drop, refl, sym, inl, inr}
+use Rattle.std.proofs.Common.{◌≡◌, ℕ, ◌+◌, Bool, false, true, ◌⊎◌, List, [], ◌∷◌, ◌++◌, length, drop, refl, inl}
 use Rattle.std.proofs.Common.{arith}
 use Rattle.std.specs.Prelude.{if◌then◌else◌}
 use Rattle.std.proofs.Math.Seq.{drop-length}
@@ -102,12 +102,7 @@ pub left_bad : (room : ℕ) (requests : List Request)
     → (after_good room requests ≡ []) ⊎ BeginsBad room (after_good room requests)
 left_bad room [] = inl refl
 left_bad room (request ∷ requests) =
-    elim (is_good room request) as (λ v. v ≡ is_good room request
-    → ((if v then after_good room requests else request ∷ requests) ≡ [])
-    ⊎ BeginsBad room (if v then after_good room requests else request ∷ requests)) [
-      | true ↦ λ good. left_bad room requests
-      | false ↦ λ bad. inr (sym bad)
-    ] refl
+    grind (arith, left_bad room requests)
 
 -- if requests begin with a bad one that isn't skipped, none is sent, whatever follows
 pub bad_sends_none : (room : ℕ) (requests more : List Request) → BeginsBad room requests
