@@ -11,7 +11,7 @@ use Rattle.tx_ring.specs.KeptSlots.{BeginsBad}
 use Rattle.tx_ring.specs.Rings.{TxState, after_place, new_ring, room_of, with_request}
 use Rattle.tx_ring.specs.Sends.{after_send, after_taking, bad_in, stop_at_front, taken_by}
 use Rattle.tx_ring.specs.Slots.{Request}
-use Rattle.tx_ring.specs.Transmission.{first_long, is_runt, long_in, plain_packets, placed_in, reached, request_for}
+use Rattle.tx_ring.specs.Transmission.{first_long, is_runt, placed_in, request_for}
 use Rattle.tx_ring.specs.Transmission.{requests_of, sent_once, told_of, transmitted_of, with_frame, with_room}
 use Rattle.tx_ring.specs.declared.transmission.Transmitter.{Transmitter}
 use Rattle.tx_ring.proofs.Lengths.{few_requests, over_all, request_fits, requests-append, sent_all, sent_front, stops_all}
@@ -217,59 +217,39 @@ ended {shape} {skip} {done} {run} carries =
           ∙ last.stops [] ∙ ap (stops_by room skip) all;
     }
 
--- the result of frames
-pub frames_sent : (room : ℕ) (skip : Bool) (frames : List Frame) → 14 ≤ room → room + 48 < 2 ^ 32
-    → sent_by room skip (requests_of room frames) ≡ plain_packets room (reached room skip frames)
-frames_sent room true frames some small = sent_all room frames some small
-frames_sent room false frames some small = sent_front room frames some small
-
-pub frames_over : (room : ℕ) (skip : Bool) (frames : List Frame) → 14 ≤ room → room + 48 < 2 ^ 32
-    → over_by room skip (requests_of room frames) ≡ (if skip then long_in room frames else 0)
-frames_over room true frames some small = over_all room frames some small
-frames_over room false frames some small = bad_in_good room (requests_of room frames)
-
 itself : {X : Type 0} (o : Option X) → (if is_some o then o else None) ≡ o
 itself None = refl
 itself (Some x) = refl
 
-pub frames_stop : (room : ℕ) (skip : Bool) (frames : List Frame) (stopped : Option ℕ) → 14 ≤ room → room + 48 < 2 ^ 32
-    → is_some stopped ≡ stops_by room skip (requests_of room frames)
-    → (if is_some stopped then first_long room frames else None) ≡ (if skip then None else first_long room frames)
-frames_stop room true frames stopped some small is = rw is refl
-frames_stop room false frames stopped some small is =
-    rw (is, stops_all room frames some small) (itself (first_long room frames))
-
 -- the result of a run
-pub result_is : (shape : RingRequest) (skip : Bool) (frames : List Frame) (run : Transmitter) → 14 ≤ room_of shape
-    → room_of shape + 48 < 2 ^ 32
-    → Comes (room_of shape) skip (requests_of (room_of shape) frames) run
-    → record {
-      packets = run.packets;
-      sent = length run.packets;
-      skipped = run.skipped;
-      stop = (if is_some run.ring.stopped then first_long (room_of shape) frames else None);
-    }
-    ≡ transmitted_of (room_of shape) skip frames
-result_is shape skip frames run some small comes =
-    let room = room_of shape in
-    let packets = comes.packets ∙ frames_sent room skip frames some small in
-    let skipped = comes.skipped ∙ frames_over room skip frames some small in
-    let stop = frames_stop room skip frames run.ring.stopped some small comes.stopped in
-    rw (packets, skipped, stop) refl
-
-pub told_is : (shape : RingRequest) (skip : Bool) (frames : List Frame) (run : Transmitter) → run.ring.shape ≡ shape
+pub told_is : {shape : RingRequest} {run : Transmitter} (skip : Bool) (frames : List Frame) → run.ring.shape ≡ shape
     → 20 ≤ room_of run.ring.shape → room_of run.ring.shape + 48 < 2 ^ 32
     → Comes (room_of shape) skip (requests_of (room_of shape) frames) run
     → told_of run frames ≡ transmitted_of (room_of shape) skip frames
-told_is shape skip frames run same some small comes =
-    let least : 20 ≤ room_of shape = subst (λ (s : RingRequest). 20 ≤ room_of s) same some in
-    ap (λ (s : RingRequest). record {
-      packets = run.packets;
-      sent = length run.packets;
-      skipped = run.skipped;
-      stop = (if is_some run.ring.stopped then first_long (room_of s) frames else None);
-    }) same
-    ∙ result_is shape skip frames run (omega arith) (subst (λ (s : RingRequest). room_of s + 48 < 2 ^ 32) same small) comes
+told_is {shape} true frames same some small comes =
+    let least : 20 ≤ room_of shape = rw same at some in
+    let most : room_of shape + 48 < 2 ^ 32 = rw same at small in
+    rw (
+      same,
+      comes.packets,
+      comes.skipped,
+      comes.stopped,
+      sent_all (room_of shape) frames (omega arith) most,
+      over_all (room_of shape) frames (omega arith) most,
+    ) refl
+told_is {shape} false frames same some small comes =
+    let least : 20 ≤ room_of shape = rw same at some in
+    let most : room_of shape + 48 < 2 ^ 32 = rw same at small in
+    rw (
+      same,
+      comes.packets,
+      comes.skipped,
+      comes.stopped,
+      sent_front (room_of shape) frames (omega arith) most,
+      bad_in_good (room_of shape) (requests_of (room_of shape) frames),
+      stops_all (room_of shape) frames (omega arith) most,
+      itself (first_long (room_of shape) frames),
+    ) refl
 
 -- how much a run has
 few_bad : (room : ℕ) (requests : List Request) → bad_in room requests ≤ length requests

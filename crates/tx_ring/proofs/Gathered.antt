@@ -10,7 +10,7 @@ use Rattle.std.proofs.Math.Nat.{div-add-mod, mul_assoc, mul_comm, mul-le-mul}
 use Rattle.std.proofs.Math.Seq.{drop-append_seam}
 use Rattle.tp_layout.specs.Requests.{IsShape}
 use Rattle.tp_layout.specs.declared.requests.RingRequest.{RingRequest}
-use Rattle.tx_ring.specs.KeptSlots.{requests_in, state_in}
+use Rattle.tx_ring.specs.KeptSlots.{Keeps, requests_in, state_in}
 use Rattle.tx_ring.specs.Outgoing.{HasFrom, frames_in}
 use Rattle.tx_ring.specs.Rings.{TxState, room_of}
 use Rattle.tx_ring.specs.Sends.{frame_of, front_of, is_good, request_at}
@@ -142,15 +142,16 @@ frames_short shape requests sound few =
     omega (arith, all, each, slots, blocks, same)
 
 -- those of a ring's requests, which are in its slots
-pub requests_short : (shape : RingRequest) (skip : Bool) (slots : List SlotState) (placed taken : ℕ) (stopped : Option ℕ)
-    (ring : TxState)
-    → state_in shape skip slots placed taken stopped ≡ ring → IsShape shape → taken ≤ placed → placed ≤ taken + shape.frame_nr
+pub requests_short : {shape : RingRequest} {skip : Bool} {slots : List SlotState} {placed taken : ℕ} {stopped : Option ℕ}
+    {ring : TxState} → Keeps (state_in shape skip slots placed taken stopped) slots taken
+    → state_in shape skip slots placed taken stopped ≡ ring → IsShape shape
     → length (frames_in (room_of ring.shape) ring.requests) < 2 ^ 32
-requests_short shape skip slots placed taken stopped ring view sound order few =
-    let there = requests_in shape.frame_nr slots taken (placed - taken) in
+requests_short {shape} {slots} {placed} {taken} keeps view sound =
+    let order = keeps.order in
+    let few = keeps.few in
     let count = length-requests_in shape.frame_nr slots taken (placed - taken) in
     subst (λ (r : TxState). length (frames_in (room_of r.shape) r.requests) < 2 ^ 32) view
-    (frames_short shape there sound (omega (arith, count, order, few)))
+    (frames_short shape (requests_in shape.frame_nr slots taken (placed - taken)) sound (omega arith))
 
 -- a piece of few bytes
 pub short_if_ok : {E : Type 0} → (result : Result (List ℕ) E) (bytes : List ℕ) → IfOk result (λ piece. piece ≡ bytes)

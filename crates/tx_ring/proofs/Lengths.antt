@@ -1,14 +1,13 @@
 -- The kinds of frames, what is placed of each, and its result.
-use Rattle.std.proofs.Common.{◌≡◌, ℕ, ◌+◌, ◌-◌, ◌^◌, ◌<◌, ◌≤◌, Bool, false, true, ◌⊎◌, List, [], ◌∷◌, ◌++◌, length, take}
-use Rattle.std.proofs.Common.{replicate, min, refl, ap, ◌∙◌, inl, inr, arith}
-use Rattle.std.specs.Prelude.{if◌then◌else◌, is_some, nat_lt, nat_le, ◌&&◌}
-use Rattle.std.proofs.lemmas.Bool.{cases_lt, le-leb, le-ltb, lt-leb, lt-ltb}
+use Rattle.std.proofs.Common.{◌≡◌, ℕ, ◌+◌, ◌^◌, ◌<◌, ◌≤◌, false, true, ◌⊎◌, List, [], ◌∷◌, ◌++◌, length}
+use Rattle.std.proofs.Common.{replicate, refl, ap, inl, inr, arith}
+use Rattle.std.specs.Prelude.{is_some, nat_lt}
+use Rattle.std.proofs.lemmas.Bool.{cases_lt}
 use Rattle.std.proofs.lemmas.Bool.Decides.{nat_tests}
 use Rattle.std.proofs.lemmas.List.{length-take-le}
 use Rattle.std.proofs.Math.Seq.{take-append_seam}
 use Rattle.frame_view.specs.PlainPacket.{plain_of}
 use Rattle.frame_view.specs.declared.frames.Frame.{Frame}
-use Rattle.tx_ring.specs.Rings.{request_of}
 use Rattle.tx_ring.specs.Sends.{bad_in, good_front, is_good, packet_of, packets_of}
 use Rattle.tx_ring.specs.Transmission.{before_long, first_long, is_fitting, is_long, is_runt, long_in, plain_packets}
 use Rattle.tx_ring.specs.Transmission.{request_for, requests_of}
@@ -37,26 +36,10 @@ pub kind_of : (room : ℕ) (frame : Frame) → 14 ≤ room → (IsRunt room fram
 kind_of room frame some =
     let size = length frame.bytes in
     elim (cases_lt size 14) [
-      | inl less ↦
-          inl (record {
-            runt = lt-ltb size 14 less;
-            fits = rw (lt-leb 14 size less) refl;
-            short = le-ltb room size (omega arith);
-          })
+      | inl less ↦ inl (grind (arith, nat_tests))
       | inr whole ↦ inr (elim (cases_lt room size) [
-        | inl more ↦ inr (record {
-          whole = le-ltb size 14 whole;
-          fits = rw (le-leb 14 size whole, lt-leb size room more) refl;
-          long = lt-ltb room size more;
-          more = more;
-        })
-        | inr most ↦ inl (record {
-          whole = le-ltb size 14 whole;
-          fits = rw (le-leb 14 size whole, le-leb size room most) refl;
-          short = le-ltb room size most;
-          least = whole;
-          most = most;
-        })
+        | inl more ↦ inr (grind (arith, nat_tests))
+        | inr most ↦ inl (grind (arith, nat_tests))
       ])
     ]
 
@@ -67,31 +50,18 @@ request_fits room bytes =
 
 -- a frame that fits is a good request, whose packet is its own
 good_kind : (room : ℕ) (frame : Frame) → Fits room frame → is_good room (request_for room frame.bytes) ≡ true
-good_kind room frame fits =
-    ap (λ (v : Bool). is_good room (if v then request_of 0 (min (length frame.bytes) (2 ^ 32 - 1)) (take room frame.bytes)
-    else request_of 0 (length frame.bytes) frame.bytes)) fits.short
-    ∙ fits.fits
+good_kind room frame fits = rw fits.short fits.fits
 
 packet_kind : (room : ℕ) (frame : Frame) → Fits room frame → packet_of (request_for room frame.bytes) ≡ plain_of frame.bytes
 packet_kind room frame fits =
-    ap (λ (v : Bool). packet_of (if v then request_of 0 (min (length frame.bytes) (2 ^ 32 - 1)) (take room frame.bytes)
-    else request_of 0 (length frame.bytes) frame.bytes)) fits.short
-    ∙ ap plain_of (take-append_seam frame.bytes (replicate (length frame.bytes) 0))
-
-and_no : (a : Bool) → a && false ≡ false
-and_no true = refl
-and_no false = refl
+    rw fits.short (ap plain_of (take-append_seam frame.bytes (replicate (length frame.bytes) 0)))
 
 -- a longer one is a bad request
 bad_kind : (room : ℕ) (frame : Frame) → room + 48 < 2 ^ 32 → IsLonger room frame
     → is_good room (request_for room frame.bytes) ≡ false
 bad_kind room frame small longer =
-    let size = min (length frame.bytes) (2 ^ 32 - 1) in
     let more = longer.more in
-    let above : room < size = omega arith in
-    ap (λ (v : Bool). is_good room (if v then request_of 0 size (take room frame.bytes)
-    else request_of 0 (length frame.bytes) frame.bytes)) longer.long
-    ∙ rw (lt-leb size room above) (and_no (nat_le 14 size))
+    rw longer.long (grind (arith, nat_tests))
 
 -- the packets of frames, and how many of them are skipped
 pub sent_all : (room : ℕ) (frames : List Frame) → 14 ≤ room → room + 48 < 2 ^ 32

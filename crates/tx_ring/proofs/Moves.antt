@@ -2,7 +2,7 @@
 use Rattle.std.proofs.Common.{◌≡◌, ℕ, suc, ◌+◌, ◌-◌, ◌%◌, ◌<◌, ◌≤◌, Bool, false, true, ◌⊎◌, List, [], ◌∷◌, ◌++◌, length, drop}
 use Rattle.std.proofs.Common.{set, replicate, Option, None, Some, IfSome, true≢false, refl, sym, ap, subst, ◌∙◌, inl, inr}
 use Rattle.std.proofs.Common.{arith}
-use Rattle.std.specs.Prelude.{◌||◌, ◌==◌}
+use Rattle.std.specs.Prelude.{◌==◌}
 use Rattle.std.proofs.lemmas.Bool.{cases_eq, eq-eqb, false_from_ne_true, eqb-true}
 use Rattle.std.proofs.lemmas.List.{get_or-set_same, get_or-set_other, get_or-replicate, length-set, length-replicate}
 use Rattle.std.proofs.Math.Nat.{mod-lt}
@@ -34,14 +34,6 @@ one_more placed taken order = omega arith
 pub behind : (placed taken : ℕ) → taken ≤ placed → taken + (placed - taken) ≡ placed
 behind placed taken order = omega arith
 
-or_true : (a : Bool) → a || true ≡ true
-or_true true = refl
-or_true false = refl
-
-or_no : (a : Bool) → a || false ≡ a
-or_no true = refl
-or_no false = refl
-
 -- the mark of the slot that is placed
 placed_here : (places placed taken : ℕ) → taken ≤ placed
     → 1 ≡ status_by None (is_among places (placed % places) taken (placed + 1 - taken)) (placed % places)
@@ -52,8 +44,7 @@ placed_here places placed taken order =
       among_more places at taken (placed - taken),
       behind placed taken order,
       eq-eqb at at refl,
-      or_true (is_among places at taken (placed - taken)),
-    ) refl
+    ) (grind arith)
 
 -- the marks of the others
 placed_there : (places placed taken at : ℕ) → taken ≤ placed → (at ≡ placed % places → ⊥)
@@ -67,8 +58,7 @@ placed_there places placed taken at order other =
       among_more places at taken (placed - taken),
       behind placed taken order,
       no,
-      or_no (is_among places at taken (placed - taken)),
-    ) refl
+    ) (grind arith)
 
 -- a ring by its fields has as many requests as are placed and not taken
 pub count_of : {shape : RingRequest} {skip : Bool} {slots : List SlotState} {placed taken : ℕ} {stopped : Option ℕ} {ring : TxState}

@@ -1,5 +1,5 @@
 -- The slots of a ring in turn: numbers that are less than one round apart have slots of their own.
-use Rattle.std.proofs.Common.{◌≡◌, ℕ, zero, suc, ◌+◌, ◌-◌, ◌*◌, ◌/◌, ◌%◌, ◌<◌, ◌≤◌, Bool, false, true, List, [], ◌∷◌, ◌++◌}
+use Rattle.std.proofs.Common.{◌≡◌, ℕ, zero, suc, ◌+◌, ◌-◌, ◌*◌, ◌/◌, ◌%◌, ◌<◌, ◌≤◌, false, List, [], ◌∷◌, ◌++◌}
 use Rattle.std.proofs.Common.{length, drop, set, refl, sym, ap, ◌∙◌, inl, inr, arith}
 use Rattle.std.specs.Prelude.{◌||◌, ◌==◌}
 use Rattle.std.proofs.lemmas.Bool.{cases_lt, eqb-true, eqb-false, false_from_ne_true}
@@ -26,22 +26,6 @@ apart places from i some less same =
 
 add-zero : (n : ℕ) → n + 0 ≡ n
 add-zero n = omega arith
-
-or_false : (a : Bool) → a || false ≡ false || a
-or_false true = refl
-or_false false = refl
-
-or_assoc : (a b c : Bool) → a || (b || c) ≡ (a || b) || c
-or_assoc true b c = refl
-or_assoc false b c = refl
-
-or_left : (a b : Bool) → a || b ≡ false → a ≡ false
-or_left true b none = cc
-or_left false b none = refl
-
-or_right : (a b : Bool) → a || b ≡ false → b ≡ false
-or_right true b none = cc
-or_right false b none = none
 
 -- a place that isn't the slot of any of some numbers isn't among their slots
 pub away : (places at from count : ℕ) → ((i : ℕ) → i < count → (from + i) % places ≡ at → ⊥)
@@ -71,11 +55,10 @@ first_is_past places from count less =
 pub among_more : (places at from count : ℕ) → is_among places at from (suc count)
     ≡ is_among places at from count || ((from + count) % places == at)
 among_more places at from zero =
-    rw (add-zero from) (or_false (from % places == at))
+    rw (add-zero from) (grind arith)
 among_more places at from (suc count) =
     let last : (from + 1) + count ≡ from + suc count = omega arith in
-    rw (among_more places at (from + 1) count, last)
-    (or_assoc (from % places == at) (is_among places at (from + 1) count) ((from + suc count) % places == at))
+    rw (among_more places at (from + 1) count, last) (grind arith)
 
 -- there are as many requests as slots
 pub length-requests_in : (places : ℕ) (slots : List SlotState) (from count : ℕ)
@@ -107,10 +90,11 @@ pub other_requests : (places : ℕ) (slots : List SlotState) (at : ℕ) (slot : 
     → requests_in places (set slots at slot) from count ≡ requests_in places slots from count
 other_requests places slots at slot from zero past = refl
 other_requests places slots at slot from (suc count) past =
-    let here : from % places ≡ at → ⊥ = eqb-false (from % places) at (or_left _ _ past) in
+    let first : (from % places == at) ≡ false = grind arith in
+    let here : from % places ≡ at → ⊥ = eqb-false (from % places) at first in
     rw (
       get_or-set_other slots at (from % places) slot (empty_slot 0) here,
-      other_requests places slots at slot (from + 1) count (or_right (from % places == at) _ past),
+      other_requests places slots at slot (from + 1) count (grind arith),
     ) refl
 
 -- the requests from a place on are those of the slots from there on

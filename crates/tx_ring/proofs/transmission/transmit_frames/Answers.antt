@@ -67,4 +67,4 @@ returns c =
     c.tell.ensures.told
     ∙ ap (λ (run : Transmitter). told_of run c.as_slice.result.now) last
     ∙ ap (told_of (sent_once c.loop-frame.run)) c.as_slice.ensures
-    ∙ told_is shape skip c.args.frames.now (sent_once c.loop-frame.run) same least small comes
+    ∙ told_is skip c.args.frames.now same least small comes

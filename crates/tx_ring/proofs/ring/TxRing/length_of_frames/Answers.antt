@@ -8,11 +8,9 @@ use Rattle.tx_ring.proofs.ring.TxRing.length_of_frames.Goals.{in-Some, in_defaul
 
 pub overflow_add-length : goal.overflow_add-length
 overflow_add-length c =
-    let inside = c.self.inside in
     let ring = c.args.self.now in
     let room = room_of ring.shape in
-    let short = requests_short inside.shape inside.skip_bad inside.slots inside.placed inside.taken inside.stopped ring
-    c.self.view_is c.a_shape_is_sound.ensures.sound c.self.invariant.order c.self.invariant.few in
+    let short = requests_short c.self.invariant c.self.view_is c.a_shape_is_sound.ensures.sound in
     let more = counted_good room c.loop-place.place ring.requests c.loop-place.length (length (frames_in room ring.requests))
     (sym c.in-Some.ensures.good) c.loop-place.invariant in
     let frame = ap length c.in-Some.ensures.value in
@@ -41,10 +39,7 @@ returns-clause-value c =
 
 pub returns-clause-short : goal.returns-clause-short
 returns-clause-short c =
-    let inside = c.self.inside in
     let ring = c.args.self.now in
     let whole = counted_all (room_of ring.shape) c.loop-place.place ring.requests c.loop-place.length _
     (omega (arith, c.requested-place-end.ensures)) c.loop-place.invariant in
-    rw whole
-    (requests_short inside.shape inside.skip_bad inside.slots inside.placed inside.taken inside.stopped ring c.self.view_is
-    c.a_shape_is_sound.ensures.sound c.self.invariant.order c.self.invariant.few)
+    rw whole (requests_short c.self.invariant c.self.view_is c.a_shape_is_sound.ensures.sound)
