@@ -68,11 +68,7 @@ ends_by_last (i ∷ j ∷ code) d l =
 no_test_holds : (a b c d : Bool) (w x y z : FilterError)
     → (if a then Some w else if b then Some x else if c then Some y else if d then Some z else None) ≡ None
     → (b ≡ false) × (d ≡ false)
-no_test_holds true b c d w x y z h = absurd (none-some w (sym h))
-no_test_holds false true c d w x y z h = absurd (none-some x (sym h))
-no_test_holds false false true d w x y z h = absurd (none-some y (sym h))
-no_test_holds false false false true w x y z h = absurd (none-some z (sym h))
-no_test_holds false false false false w x y z h = (refl, refl)
+no_test_holds a b c d w x y z h = (grind arith, grind arith)
 
 no_bad : (at behind : ℕ) (i : Insn) → fault_of_known at behind i ≡ None
     → (has_bad_word i ≡ false) × (has_bad_jump behind i ≡ false)
@@ -140,20 +136,14 @@ record Parts (code : List Insn) : Type 0 where
   none : first_fault 0 code ≡ None
   ends : ends_with_return code ≡ true
 
-ends_with : (ends : Bool) (code : List Insn)
-    → ◌≡◌ {A = Result (List Insn) FilterError} (if ends then Ok code else Err NoReturn) (Ok code) → ends ≡ true
-ends_with true code h = refl
-ends_with false code h = cc
-
 parts_of : (code : List Insn) → program_of code ≡ Ok code → Parts code
 unfolding program_of
-parts_of code h = by_test (nat_lt 4096 (length code)) (first_fault 0 code) refl refl h
+parts_of code h = by_test (first_fault 0 code) refl h
   where
-    by_test : (long : Bool) (fault : Option FilterError) → nat_lt 4096 (length code) ≡ long → first_fault 0 code ≡ fault
-        → ◌≡◌ {A = Result (List Insn) FilterError} (if long then Err BadCount else program_after fault code) (Ok code) → Parts code
-    by_test true fault l f h = cc
-    by_test false None l f h = record { small = grind arith; none = f; ends = ends_with (ends_with_return code) code h }
-    by_test false (Some fault) l f h = cc
+    by_test : (fault : Option FilterError) → first_fault 0 code ≡ fault → ◌≡◌ {A = Result (List Insn) FilterError}
+        (if nat_lt 4096 (length code) then Err BadCount else program_after fault code) (Ok code) → Parts code
+    by_test None f h = record { small = grind arith; none = f; ends = grind arith }
+    by_test (Some fault) f h = absurd (grind arith)
 
 pub accepted_fit : (code : List Insn) → program_of code ≡ Ok code → AllFit code
 accepted_fit code h =
