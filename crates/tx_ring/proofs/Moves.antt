@@ -61,9 +61,9 @@ placed_there places placed taken at order other =
     ) (grind arith)
 
 -- a ring by its fields has as many requests as are placed and not taken
-pub count_of : {shape : RingRequest} {skip : Bool} {slots : List SlotState} {placed taken : ℕ} {stopped : Option ℕ} {ring : TxState}
-    → Keeps (state_in shape skip slots placed taken stopped) slots taken → state_in shape skip slots placed taken stopped ≡ ring
-    → length ring.requests ≡ placed - taken
+pub count_of : {shape : RingRequest} {skip : Bool} {slots : List SlotState} {placed taken : ℕ} {stopped : Option ℕ}
+    {ring : TxState} → Keeps (state_in shape skip slots placed taken stopped) slots taken
+    → state_in shape skip slots placed taken stopped ≡ ring → length ring.requests ≡ placed - taken
 count_of {shape} {slots} {placed} {taken} keeps view =
     ap (λ (r : TxState). length r.requests) (sym view) ∙ length-requests_in shape.frame_nr slots taken (placed - taken)
 
@@ -116,8 +116,8 @@ placed_by shape skip slots placed taken slot keeps free size status =
       rw requests refl,
     )
 
-pub placed_next : {shape : RingRequest} {skip : Bool} {slots : List SlotState} {placed taken : ℕ} {stopped : Option ℕ} {ring : TxState}
-    {new : List SlotState} {at : ℕ} (request : Request)
+pub placed_next : {shape : RingRequest} {skip : Bool} {slots : List SlotState} {placed taken : ℕ} {stopped : Option ℕ}
+    {ring : TxState} {new : List SlotState} {at : ℕ} (request : Request)
     → Keeps (state_in shape skip slots placed taken stopped) slots taken → state_in shape skip slots placed taken stopped ≡ ring
     → length ring.requests < ring.shape.frame_nr → ring.stopped ≡ None → at ≡ slot_of ring.shape placed
     → new ≡ set slots at (record { size = (slot_at slots at).size; status = 1; request = request })
@@ -143,8 +143,8 @@ pub front_request : (places : ℕ) (slots : List SlotState) (placed taken : ℕ)
 front_request places slots placed taken some = rw (behind_first placed taken some) refl
 
 -- the request at a place is that of its slot
-pub request_there : {shape : RingRequest} {skip : Bool} {slots : List SlotState} {placed taken : ℕ} {stopped : Option ℕ} {ring : TxState}
-    {place at count left : ℕ} → Keeps (state_in shape skip slots placed taken stopped) slots taken
+pub request_there : {shape : RingRequest} {skip : Bool} {slots : List SlotState} {placed taken : ℕ} {stopped : Option ℕ}
+    {ring : TxState} {place at count left : ℕ} → Keeps (state_in shape skip slots placed taken stopped) slots taken
     → state_in shape skip slots placed taken stopped ≡ ring → place < length ring.requests → count ≡ length ring.requests
     → left ≡ count - place → at ≡ slot_of ring.shape (placed - left)
     → (slot_at slots at).request ≡ request_at place ring.requests
@@ -208,8 +208,8 @@ taken_by shape skip slots placed taken slot keeps left size status =
       rw (behind_first placed taken left, requests) refl,
     )
 
-pub taken_first : {shape : RingRequest} {skip : Bool} {slots : List SlotState} {placed taken : ℕ} {stopped : Option ℕ} {ring : TxState}
-    {new : List SlotState} {at : ℕ} → Keeps (state_in shape skip slots placed taken stopped) slots taken
+pub taken_first : {shape : RingRequest} {skip : Bool} {slots : List SlotState} {placed taken : ℕ} {stopped : Option ℕ}
+    {ring : TxState} {new : List SlotState} {at : ℕ} → Keeps (state_in shape skip slots placed taken stopped) slots taken
     → state_in shape skip slots placed taken stopped ≡ ring → 0 < length ring.requests → ring.stopped ≡ None
     → at ≡ slot_of ring.shape taken → new ≡ set slots at (record (slot_at slots at) { status = 0 })
     → Keeps (state_in shape skip new placed (taken + 1) stopped) new (taken + 1)
@@ -281,8 +281,8 @@ begins_bad : (room : ℕ) (requests : List Request) → 0 < length requests → 
 begins_bad room [] some bad = absurd (omega arith)
 begins_bad room (request ∷ requests) some bad = bad
 
-pub stopped_first : {shape : RingRequest} {skip : Bool} {slots : List SlotState} {placed taken : ℕ} {stopped : Option ℕ} {ring : TxState}
-    {new : List SlotState} {at : ℕ} → Keeps (state_in shape skip slots placed taken stopped) slots taken
+pub stopped_first : {shape : RingRequest} {skip : Bool} {slots : List SlotState} {placed taken : ℕ} {stopped : Option ℕ}
+    {ring : TxState} {new : List SlotState} {at : ℕ} → Keeps (state_in shape skip slots placed taken stopped) slots taken
     → state_in shape skip slots placed taken stopped ≡ ring → 0 < length ring.requests
     → is_good (room_of ring.shape) (front_of ring.requests) ≡ false → ring.skip_bad ≡ false → at ≡ slot_of ring.shape taken
     → new ≡ set slots at (record (slot_at slots at) { status = 4 })

@@ -9,7 +9,8 @@ piece_of-requires c =
 
 pub returns-then-at-self-clause-value : goal.returns-then-at-self-clause-value
 returns-then-at-self-clause-value c =
-    c.piece_of.ensures ∙ rw (c.frame_size-size.ensures.value, c.as_slice.ensures.value) (shown c.args.at c.self.invariant (omega arith))
+    c.piece_of.ensures
+    ∙ rw (c.frame_size-size.ensures.value, c.as_slice.ensures.value) (shown c.args.at c.self.invariant (omega arith))
     ∙ ap (λ (slots : List SlotState). slot_text (slot_at slots c.args.at)) c.self.view_is
 
 pub returns-then-at-self-clause-sound : goal.returns-then-at-self-clause-sound
