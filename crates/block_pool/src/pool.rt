@@ -3,7 +3,6 @@ ghost use Rattle.std.specs.Prelude.{◌≡◌, ◌+◌, ◌<◌, ◌≤◌, drop
 ghost use Rattle.std.specs.List.{AllByRecursion};
 ghost use Rattle.cpu_feeders.specs.Feeds.{IsFreshSeat};
 ghost use Rattle.cpu_feeders.specs.Runs.{IsCaptureRun};
-ghost use Rattle.setup_text.specs.Runnable.{IsRunnable};
 ghost use Rattle.setup_text.specs.Sound.{AreMoments};
 ghost use Rattle.ticket_dealer.specs.Seats.{IsFreshOf};
 ghost use Rattle.work_queue.specs.Passes.{fresh_passes};
@@ -73,7 +72,6 @@ pub fn run_pool<S: Source + Send, G: Gate + Sync, R: Threads + Wait + Sync>(
     gate: &G,
     workers: u32,
 ) -> Result<Ran<S>, Memory>
-    requires setup { IsRunnable job.now.setup }
     requires sources { length sources.items ≡ length job.now.setup.cpus }
     requires moments { AreMoments ticks.now }
     requires some { 0 < workers }

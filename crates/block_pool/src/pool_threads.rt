@@ -6,7 +6,6 @@ ghost use Rattle.block_pool.specs.Takers.{handing_base, handing_taken};
 ghost use Rattle.block_pool.specs.Workers.{HasDecoded, IsFreshWorker};
 ghost use Rattle.cpu_feeders.specs.Feeds.{IsFreshSeat};
 ghost use Rattle.cpu_feeders.specs.Runs.{IsFreshTaker, IsTakerRun};
-ghost use Rattle.setup_text.specs.Runnable.{IsRunnable};
 ghost use Rattle.setup_text.specs.Sound.{AreMoments};
 
 use crate::takers::Handing;
@@ -76,7 +75,6 @@ fn take_all<'a, S: Source + Send, G: Gate + Sync, R: Threads + Wait + Sync>(
     takers: Vec<Handing<'a, R>>,
     seat: DealerSeat,
 ) -> Result<Workers<S, Handing<'a, R>>, Memory>
-    requires setup { IsRunnable job.now.setup }
     requires sources { length sources.items ≡ length job.now.setup.cpus }
     requires moments { AreMoments ticks.now }
     requires takers { length takers.items ≡ job.now.setup.plan.members }
@@ -109,7 +107,6 @@ pub(crate) fn run_both<'a, S: Source + Send, G: Gate + Sync, R: Threads + Wait +
     pool_workers: Vec<PoolWorker>,
     seat: DealerSeat,
 ) -> (Vec<PoolWorker>, Result<Workers<S, Handing<'a, R>>, Memory>)
-    requires setup { IsRunnable job.now.setup }
     requires sources { length sources.items ≡ length job.now.setup.cpus }
     requires moments { AreMoments ticks.now }
     requires takers { length takers.items ≡ job.now.setup.plan.members }
@@ -144,8 +141,7 @@ pub(crate) fn run_both<'a, S: Source + Send, G: Gate + Sync, R: Threads + Wait +
             serve(rt, &pool, pool_workers)
         },
         move || -> Result<Workers<S, Handing<R>>, Memory>
-            requires { IsRunnable job.now.setup
-                × (length sources.items ≡ length job.now.setup.cpus)
+            requires { (length sources.items ≡ length job.now.setup.cpus)
                 × AreMoments ticks.now
                 × (length takers.items ≡ job.now.setup.plan.members)
                 × AllByRecursion

@@ -22,7 +22,6 @@ use Rattle.ring_model.specs.declared.notes.Note.{Note}
 use Rattle.run_reports.specs.Jobs.{arriving_of, rules_of}
 use Rattle.run_reports.specs.Reports.{logged}
 use Rattle.run_reports.proofs.ArrivalOrder.{AreNumbered, arrive}
-use Rattle.setup_text.specs.Runnable.{IsRunnable}
 use Rattle.setup_text.specs.declared.jobs.Job.{Job}
 use Rattle.tap_outside.specs.Seen.{SourceSeen}
 use Rattle.ticket_dealer.specs.Seats.{SeatValue}
@@ -58,7 +57,7 @@ module _ (numbered : AreNumbered) (ticks : Ticks) (counts : Counts) (joins : Joi
     (cpus : List CpuLeft)
     (members : List MemberLeft) (timer : List Seat) (seats : List SeatValue) (number : ℕ) (nows : List (Option SourceSeen))
     (logs : List CpuLog)
-    (setup : IsRunnable job.setup) (left : AreLeft job moments cpus members timer seats number)
+    (left : AreLeft job moments cpus members timer seats number)
     (close : AllClose (feeds_of cpus) nows logs) where
   fed : AllFed job (locks_of members) 0 cpus
   fed = all_fed job (locks_of members) 0 cpus (λ cpu none within.
@@ -154,7 +153,7 @@ module _ (numbered : AreNumbered) (ticks : Ticks) (counts : Counts) (joins : Joi
 
   threads : AreThreads (rules_of job) (room_of job.setup.shape) (map logged_of cpus) seats number (notes_of_members members)
   threads = record {
-    some = setup.some_members;
+    some = job.runnable.some_members;
     count = length-map members notes_in ∙ left.member_count;
     frames = frames_at;
     lawful = λ cpu. lawful_at job (locks_of members) 0 cpus cpu fed;

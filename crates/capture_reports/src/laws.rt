@@ -11,7 +11,6 @@ ghost use Rattle.ring_model.specs.declared.notes.Note.{Note};
 ghost use Rattle.ring_words.specs.Pendings.{Pends};
 ghost use Rattle.ring_words.specs.Rings.{Entry};
 ghost use Rattle.run_reports.specs.Reports.{IsRunReport};
-ghost use Rattle.setup_text.specs.Runnable.{IsRunnable};
 ghost use Rattle.setup_text.specs.declared.jobs.Job.{Job};
 ghost use Rattle.run_reports.specs.declared.reports.RunReport.{RunReport};
 ghost use Rattle.tap_outside.specs.Seen.{SourceSeen};
@@ -33,7 +32,7 @@ use run_reports::a_group_s_report_is_that_of_a_run;
 pub fn threads_leave_a_group()
     ensures { (job : Job) (moments : List ℕ) (cpus : List CpuLeft) (members : List MemberLeft)
         (timer : List Seat) (seats : List SeatValue) (number : ℕ)
-        (nows : List (Option SourceSeen)) (logs : List CpuLog) → IsRunnable job.setup
+        (nows : List (Option SourceSeen)) (logs : List CpuLog)
         → AreLeft job moments cpus members timer seats number
         → AllClose (feeds_of cpus) nows logs
         → IsGroupRun job moments (bytes_of (feeds_of cpus)) (ends_of logs) logs
@@ -54,7 +53,7 @@ pub fn threads_leave_what_sources_gave()
 /// A taker that read all blocks of a ring that was finished, in order, read the blocks of the
 /// ring's notes.
 pub fn blocks_are_read_as_they_were_noted()
-    ensures { (job : Job) (notes : List Note) (ring : Pends ShapedBytes) → IsRunnable job.setup
+    ensures { (job : Job) (notes : List Note) (ring : Pends ShapedBytes)
         → IsRingOf job.setup.shape notes ring
         → map (λ (entry : Entry). taken_in job.setup.shape entry.0) ring.retired
         ≡ taken_of_notes job.setup.shape notes }
@@ -66,7 +65,7 @@ pub fn blocks_are_read_as_they_were_noted()
 pub fn threads_report_a_run()
     ensures { (job : Job) (moments : List ℕ) (bytes : List (List ℕ)) (ends : List CpuEnd)
         (notes : List (List Note)) (rings : List (Pends ShapedBytes)) (report : RunReport)
-        → IsRunnable job.setup → IsGroupRun job moments bytes ends report.cpus notes rings
+        → IsGroupRun job moments bytes ends report.cpus notes rings
         → AreReported job.setup.shape job.setup.dump notes rings report.members
         → IsRunReport job bytes ends report }
 {

@@ -20,7 +20,6 @@ use Rattle.reader_walk.specs.Takers.{Base}
 use Rattle.tp_layout.specs.Layouts.{Taken}
 use Rattle.ring_model.specs.declared.notes.Note.{Note}
 use Rattle.ring_words.specs.Pendings.{Pends}
-use Rattle.setup_text.specs.Runnable.{IsRunnable}
 use Rattle.setup_text.specs.declared.jobs.Job.{Job}
 use Rattle.tap_outside.specs.Seen.{SourceSeen}
 use Rattle.ticket_dealer.specs.Seats.{AreDealt, DealerValue, IsFreshOf, IsSeatOf, SeatValue}
@@ -48,7 +47,7 @@ abbrev pub LeavesGroup : Type 0
 LeavesGroup =
     (job : Job) (moments : List ℕ) (cpus : List CpuLeft) (members : List MemberLeft) (timer : List Seat)
     (seats : List SeatValue)
-    (number : ℕ) (nows : List (Option SourceSeen)) (logs : List CpuLog) → IsRunnable job.setup
+    (number : ℕ) (nows : List (Option SourceSeen)) (logs : List CpuLog)
     → AreLeft job moments cpus members timer seats number
     → AllClose (feeds_of cpus) nows logs
     → IsGroupRun job moments (bytes_of (feeds_of cpus)) (ends_of logs) logs (notes_of_members members) (rings_of members)
@@ -309,20 +308,20 @@ module _ {S T : Type 0} {base_of : T → Base} {taken_by : T → List Taken} {jo
         ∙ ap (λ (cs : List Feeding). firsts_of cs) worked.fresh_threads.feeds_are ∙ fed.firsts_are job.setup.plan 0 firsts
 
     -- what the run leaves
-    pub taker_run : LeavesGroup → LeavesGiven → closed.ReadsNotes base_of taken_by dealer job → IsRunnable job.setup
+    pub taker_run : LeavesGroup → LeavesGiven → closed.ReadsNotes base_of taken_by dealer job
         → {number : ℕ} {seats : List SeatValue}
         {cpus : List Feeding} {nows : List (Option SourceSeen)} {logs : List CpuLog} → seats ≡ all_seats all
         → AreDealt seats number
         → cpus ≡ map fed.feed_in feeders → AllClose cpus nows logs
         → IsTakerRun base_of taken_by job moments firsts takers nows (map closed.taker_left all) logs (map closed.notes_in all)
         (map closed.ring_in all)
-    taker_run group gave reads setup {number = number} {seats = seats} {nows = nows} {logs = logs} are dealt cpus_are close =
+    taker_run group gave reads {number = number} {seats = seats} {nows = nows} {logs = logs} are dealt cpus_are close =
         let lefts : List CpuLeft = map fed.left_of feeders in
         let closes : AllClose (feeds_of lefts) nows logs = subst (λ (cs : List Feeding). AllClose cs nows logs)
         (cpus_are ∙ sym (fed.feeds_are feeders)) close in
         let run : IsGroupRun job moments (bytes_of (feeds_of lefts)) (ends_of logs) logs (notes_of_members members)
         (rings_of members) =
-        group job moments lefts members timer.member_seats.items seats number nows logs setup (left number seats are dealt)
+        group job moments lefts members timer.member_seats.items seats number nows logs (left number seats are dealt)
         closes in
         record {
           bytes = bytes_of (feeds_of lefts);

@@ -5,7 +5,6 @@ ghost use Rattle.capture_file.specs.declared.cpu_end.CpuEnd.{CpuEnd};
 ghost use Rattle.capture_reports.specs.Reported.{IsCaptured, IsGroupRun};
 ghost use Rattle.cpu_feeders.specs.Reports.{AreOutputsOf, member_reports, report_of};
 ghost use Rattle.run_reports.specs.Reports.{IsRunReport};
-ghost use Rattle.setup_text.specs.Runnable.{IsRunnable};
 ghost use Rattle.setup_text.specs.declared.jobs.Job.{Job};
 
 use crate::list_ends::first_of;
@@ -66,7 +65,6 @@ pub fn report_run(
     // If these are what a job left, and the outputs those of all blocks, the report is the job's.
     ensures ran { IfOk result (λ report.
         (job : Job) (moments : List ℕ) (bytes : List (List ℕ)) (ends : List CpuEnd)
-        → IsRunnable job.setup
         → IsGroupRun job moments bytes ends cpus notes.items rings.items
         → AllZip (AreOutputsOf job.setup.shape job.setup.dump) notes.items outputs.items
         → IsRunReport job bytes ends report × IsCaptured job.setup.shape moments report) }

@@ -4,7 +4,6 @@ ghost use Rattle.std.specs.List.{AllByRecursion};
 ghost use Rattle.cpu_feeders.specs.inside.FreshWorkers.{AreFreshThreads, IsDealt};
 ghost use Rattle.cpu_feeders.specs.inside.Openings.{IsGroupOf};
 ghost use Rattle.cpu_feeders.specs.Runs.{IsFreshTaker};
-ghost use Rattle.setup_text.specs.Runnable.{IsRunnable};
 
 use crate::fresh_workers::{feeders_of, walkers_of, workers_of};
 use crate::list_ends::last_of;
@@ -68,7 +67,6 @@ fn threads_of<S: Source, T: Taker + Drop>(
     group: OpenGroup,
     dealt: Dealt,
 ) -> Result<RunThreads<S, T>, Memory>
-    requires setup { IsRunnable job.now.setup }
     requires sources { length sources.items ≡ length job.now.setup.cpus }
     requires takers { length takers.items ≡ job.now.setup.plan.members }
     requires fresh { AllByRecursion (IsFreshTaker T.base T.taken job.now.setup.shape) takers.items }
@@ -103,7 +101,6 @@ pub(crate) fn new_threads<S: Source, T: Taker + Drop>(
     sources: Vec<Option<S>>,
     takers: Vec<T>,
 ) -> Result<RunThreads<S, T>, Memory>
-    requires setup { IsRunnable job.now.setup }
     requires sources { length sources.items ≡ length job.now.setup.cpus }
     requires takers { length takers.items ≡ job.now.setup.plan.members }
     requires fresh { AllByRecursion (IsFreshTaker T.base T.taken job.now.setup.shape) takers.items }

@@ -4,7 +4,6 @@ ghost use Rattle.std.specs.Prelude.{IfOk, OnOk};
 ghost use Rattle.std.specs.List.{AllByRecursion};
 ghost use Rattle.cpu_feeders.specs.inside.RunThreads.{HaveWorked};
 ghost use Rattle.cpu_feeders.specs.Runs.{IsFreshTaker, IsTakerRun};
-ghost use Rattle.setup_text.specs.Runnable.{IsRunnable};
 ghost use Rattle.setup_text.specs.Sound.{AreMoments};
 ghost use Rattle.tap_outside.specs.Seen.{SourceSeen};
 
@@ -124,7 +123,6 @@ fn close_threads<S: Source, T: Taker + Drop>(
     job: &Job,
     threads: RunThreads<S, T>,
 ) -> Result<Workers<S, T>, Memory>
-    requires setup { IsRunnable job.now.setup }
     requires worked { (moments : List ℕ) × (firsts : List (Option SourceSeen)) × (takers : List _)
         × HaveWorked T.base T.taken job.now moments firsts takers
         threads.members.items threads.dealer threads.spare.items threads.workers.items }
@@ -173,7 +171,6 @@ pub fn run_takers<
     gate: &G,
     takers: Vec<T>,
 ) -> Result<Workers<S, T>, Memory>
-    requires setup { IsRunnable job.now.setup }
     requires sources { length sources.items ≡ length job.now.setup.cpus }
     requires moments { AreMoments ticks.now }
     requires takers { length takers.items ≡ job.now.setup.plan.members }

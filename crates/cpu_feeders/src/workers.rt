@@ -3,7 +3,6 @@ ghost use Rattle.std.specs.Prelude.{◌≡◌, None, length, map, option_map, re
 ghost use Rattle.std.specs.List.{AllByRecursion};
 ghost use Rattle.cpu_feeders.specs.Runs.{IsCaptureRun};
 ghost use Rattle.reader_walk.specs.Readers.{new_reader, outputs_of};
-ghost use Rattle.setup_text.specs.Runnable.{IsRunnable};
 ghost use Rattle.setup_text.specs.Sound.{AreMoments};
 
 use crate::{Gate, report_run, run_takers};
@@ -53,7 +52,6 @@ pub fn run_workers<S: Source + Send, G: Gate + Sync, R: Threads + Wait + Sync>(
     ticks: &MomentList,
     gate: &G,
 ) -> Result<Ran<S>, Memory>
-    requires setup { IsRunnable job.now.setup }
     requires sources { length sources.items ≡ length job.now.setup.cpus }
     requires moments { AreMoments ticks.now }
     ensures ran { IfOk result (λ ran. IsCaptureRun job.now ticks.now

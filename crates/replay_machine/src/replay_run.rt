@@ -2,7 +2,6 @@
 ghost use Rattle.std.specs.Prelude.{◌<◌, length, IfOk, OnOk};
 ghost use Rattle.setup_text.specs.declared.lines.Line.TheVariants.{Feed};
 ghost use Rattle.receive_ring.specs.TakenOffers.{MayCome};
-ghost use Rattle.setup_text.specs.Runnable.{IsRunnable};
 ghost use Rattle.setup_text.specs.declared.jobs.Job.{Job as GivenJob};
 ghost use Rattle.receive_ring.specs.Rings.{IsRoomOf};
 ghost use Rattle.replay_machine.specs.RunStates.{Feeds, HasCount, IsRun};
@@ -67,7 +66,6 @@ impl<S: Source, R: ReceiveRing, K: Setting> ReplayRun<S, R, K> {
         room: u32,
         line: Line,
     ) -> Result<(), Memory>
-        requires setup { IsRunnable job.now.setup }
         requires bytes { IsRoomOf (R.steps K.shape) room }
         requires run { IsRun (R.steps K.shape) job.now self.old }
         requires counted { HasCount self.old }
@@ -84,7 +82,6 @@ impl<S: Source, R: ReceiveRing, K: Setting> ReplayRun<S, R, K> {
 
     /// Feeds a CPU its next frame, if there is such a CPU.
     fn feed_line(&mut self, alloc: Global, job: &Job, room: u32, cpu: u32) -> Result<(), Memory>
-        requires setup { IsRunnable job.now.setup }
         requires bytes { IsRoomOf (R.steps K.shape) room }
         requires run { IsRun (R.steps K.shape) job.now self.old }
         requires counted { HasCount self.old }
@@ -99,7 +96,6 @@ impl<S: Source, R: ReceiveRing, K: Setting> ReplayRun<S, R, K> {
 
     /// Feeds the frames that are left: those of CPU 0, then those of CPU 1, and so on.
     pub(crate) fn feed_rest(&mut self, alloc: Global, job: &Job, room: u32) -> Result<(), Memory>
-        requires setup { IsRunnable job.now.setup }
         requires bytes { IsRoomOf (R.steps K.shape) room }
         requires run { IsRun (R.steps K.shape) job.now self.old }
         requires counted { HasCount self.old }
@@ -113,7 +109,6 @@ impl<S: Source, R: ReceiveRing, K: Setting> ReplayRun<S, R, K> {
 
     /// Feeds all frames of a CPU that are left.
     fn feed_all(&mut self, alloc: Global, job: &Job, room: u32, cpu: usize) -> Result<(), Memory>
-        requires setup { IsRunnable job.now.setup }
         requires bytes { IsRoomOf (R.steps K.shape) room }
         requires run { IsRun (R.steps K.shape) job.now self.old }
         requires counted { HasCount self.old }

@@ -2,7 +2,6 @@
 //! their frames.
 ghost use Rattle.std.specs.Prelude.{◌≡◌, ◌^◌, ◌<◌, length, map, option_map, IfOk};
 ghost use Rattle.setup_text.specs.TickOrder.{IsSchedule};
-ghost use Rattle.setup_text.specs.Runnable.{IsRunnable};
 ghost use Rattle.replay_machine.specs.Reported.{reported_by};
 ghost use Rattle.replay_machine.specs.Runs.{IsReplayedOver};
 
@@ -28,7 +27,6 @@ pub fn replay_over<S: Source, R: ReceiveRing>(
     schedule: &Schedule,
 ) -> Result<Ran<S>, Memory>
     requires may { R.may job.now.setup.shape }
-    requires setup { IsRunnable job.now.setup }
     requires sources { length sources.items ≡ length job.now.setup.cpus }
     requires schedule { IsSchedule schedule.now }
     requires few { length schedule.now < 2 ^ 32 }
@@ -52,7 +50,6 @@ fn replay_as<S: Source, R: ReceiveRing, K: Setting>(
     requires shape { job.now.setup.shape ≡ K.shape }
     requires dump { job.now.setup.dump ≡ K.dumps }
     requires may { R.may job.now.setup.shape }
-    requires setup { IsRunnable job.now.setup }
     requires sources { length sources.items ≡ length job.now.setup.cpus }
     requires schedule { IsSchedule schedule.now }
     requires few { length schedule.now < 2 ^ 32 }

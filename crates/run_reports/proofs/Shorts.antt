@@ -14,7 +14,6 @@ use Rattle.ring_model.specs.Fates.{frame_notes, kept_of}
 use Rattle.ring_model.specs.Offers.{packet_of}
 use Rattle.ring_model.specs.declared.notes.Note.{Note}
 use Rattle.ring_model.specs.declared.notes.Offer.{Offer}
-use Rattle.setup_text.specs.Runnable.{IsRunnable}
 use Rattle.setup_text.specs.declared.jobs.Job.{Job}
 use Rattle.run_reports.specs.declared.reports.MemberReport.{MemberReport}
 use Rattle.run_reports.specs.declared.reports.RunReport.{RunReport}
@@ -56,11 +55,11 @@ module _ (rules : Rules) (room : ℕ) (fills : Bool) (cpus : List Logged) (membe
       subst (λ (ps : List Packet). All IsShort ps) (sym (walked at d within))
       (All-from_recursion IsShort _ (packets_short fills room (kept_of (get_or members at d).notes) small (cut_at at d within)))
 
-pub are_short : (job : Job) (arriving : List (List (Option Frame))) (report : RunReport) → IsRunnable job.setup
+pub are_short : (job : Job) (arriving : List (List (Option Frame))) (report : RunReport)
     → IsReport (rules_of job) job.setup.shape job.setup.dump arriving report → AreShort report.members
-are_short job arriving report setup h =
+are_short job arriving report h =
     let room = room_of job.setup.shape in
-    let low = setup.ring.small in
+    let low = job.runnable.ring.small in
     short_members (rules_of job) room (fills_hash job.setup.shape) (logged arriving report.cpus) report.members
     (omega (arith, low)) h.group
     (λ at d within. let member = h.members at d within in member.walked)

@@ -13,7 +13,6 @@ ghost use Rattle.run_reports.specs.Members.{AreShort, DropsNoneBelow};
 ghost use Rattle.run_reports.specs.Once.{EachArrivalAppearsOnce, EachIsAtItsLastTry};
 ghost use Rattle.run_reports.specs.Reports.{IsReport, IsRunReport};
 ghost use Rattle.run_reports.specs.Totals.{TotalsAddUp};
-ghost use Rattle.setup_text.specs.Runnable.{IsRunnable};
 ghost use Rattle.setup_text.specs.declared.jobs.Job.{Job};
 ghost use Rattle.run_reports.specs.declared.reports.RunReport.{RunReport};
 ghost use Rattle.tp_layout.specs.Requests.{size_of};
@@ -25,7 +24,6 @@ use ring_model::{a_ring_with_blocks_left_drops_nothing, statistics_count_each_pa
 /// block.
 pub fn a_group_s_packets_are_short()
     ensures { (job : Job) (arriving : List (List (Option Frame))) (report : RunReport)
-        → IsRunnable job.setup
         → IsReport (rules_of job) job.setup.shape job.setup.dump arriving report
         → AreShort report.members }
 {}
@@ -43,7 +41,6 @@ pub fn each_arrival_appears_exactly_once()
 /// each member's notes are a whole run: the rest follows.
 pub fn a_group_s_report_is_that_of_a_run()
     ensures { (job : Job) (bytes : List (List ℕ)) (ends : List CpuEnd) (report : RunReport)
-        → IsRunnable job.setup
         → AreLogsFrom 0 bytes ends report.cpus
         → IsReport (rules_of job) job.setup.shape job.setup.dump (arriving_of job bytes) report
         → IsRunReport job bytes ends report }

@@ -16,7 +16,7 @@ ghost use Rattle.tap_engine.specs.Names.{AreMeantToRead, filter_for, ticks_for};
 use crate::commands::Asked;
 use bpf_filter::Program;
 use frame_view::MomentList;
-use setup_text::{Command, Job, Schedule, Setup};
+use setup_text::{Command, Job, Schedule, Setup, a_setup_with_cpus_can_be_run};
 use std::alloc::Global;
 use tap_outside::{Store, Word};
 use tap_reading::{Stop, load_filter, load_schedule, load_setup, load_ticks};
@@ -42,6 +42,7 @@ pub(crate) fn load_job<S: Store>(
 {
     let setup = load_setup(alloc, store, asked.setup, asked.command)?;
     let program = load_program(alloc, store, filter_for(asked.command, &setup))?;
+    a_setup_with_cpus_can_be_run(&setup);
     Ok(Job { setup, program })
 }
 

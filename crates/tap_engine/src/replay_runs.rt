@@ -20,7 +20,7 @@ use crate::sources::{close_captures, fetch_captures};
 use frame_view::Memory;
 use made_captures::{made_schedule, made_sources};
 use run_reports::{Ran, RunReport};
-use setup_text::{Command, Job, Schedule, a_setup_with_cpus_can_be_run};
+use setup_text::{Command, Job, Schedule};
 use std::alloc::Global;
 use tap_outside::{Source, Store};
 use tap_printing::RingKind;
@@ -98,7 +98,6 @@ fn replay_over<I: Source>(
     sources: Vec<Option<I>>,
     schedule: &Schedule,
 ) -> Result<Ran<I>, Memory>
-    requires setup { IsSetup job.now.setup }
     requires ring { rings ≡ RingKind.Slots → IsSlotShape job.now.setup.shape }
     requires sources { length sources.items ≡ length job.now.setup.cpus }
     requires schedule { IsSchedule schedule.now }
@@ -108,7 +107,6 @@ fn replay_over<I: Source>(
         (map (option_map I.seen) ran.sources.items)
         ran.report) }
 {
-    a_setup_with_cpus_can_be_run(&job.setup);
     match rings {
         RingKind::Blocks => replay(alloc, job, sources, schedule),
         RingKind::Slots => replay_v2(alloc, job, sources, schedule),
@@ -124,7 +122,6 @@ pub(crate) fn replay_made(alloc: Global, job: &Job) -> Result<RunReport, Memory>
     ensures faults { IfOk result (λ report. faults_in report.cpus ≡ 0) }
     ensures small { IfOk result IsSmall }
 {
-    a_setup_with_cpus_can_be_run(&job.setup);
     let setup = &job.setup;
     let cpus = setup.cpus.len() as u32;
     let sources = made_sources(alloc, setup.seed, setup.count, cpus)?;

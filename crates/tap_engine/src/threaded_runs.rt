@@ -16,7 +16,7 @@ use block_pool::run_pool;
 use cpu_feeders::{Gate, run_workers};
 use frame_view::{ItemList, Memory, MomentList};
 use run_reports::{Forwards, Ran, RunReport};
-use setup_text::{Job, a_setup_with_cpus_can_be_run};
+use setup_text::Job;
 use std::alloc::Global;
 use std::sync::Wait;
 use std::thread::Threads;
@@ -118,7 +118,6 @@ fn run_sources<S: Source + Send, G: Gate + Sync, R: Threads + Wait + Sync>(
         run.0.report) }
     ensures sent { IfOk result (λ run. IsSentBy sends job.now.setup run.0.report run.1) }
 {
-    a_setup_with_cpus_can_be_run(&job.setup);
     if !sends {
         let ran = capture_sources(rt, alloc, job, sources, moments, gate)?;
         return Ok((ran, None));
@@ -155,7 +154,6 @@ fn capture_sources<S: Source + Send, G: Gate + Sync, R: Threads + Wait + Sync>(
         (map (option_map S.seen) ran.sources.items)
         ran.report) }
 {
-    a_setup_with_cpus_can_be_run(&job.setup);
     let workers = job.setup.workers;
     if workers == 0 {
         run_workers(rt, alloc, job, sources, moments, gate)

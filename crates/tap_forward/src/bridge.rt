@@ -1,7 +1,6 @@
 //! The run of a job on threads whose readers send.
 ghost use Rattle.std.specs.Prelude.{◌≡◌, None, length, map, option_map, replicate, IfOk};
 ghost use Rattle.cpu_feeders.specs.Runs.{IsCaptureRun};
-ghost use Rattle.setup_text.specs.Runnable.{IsRunnable};
 ghost use Rattle.setup_text.specs.Sound.{AreMoments};
 ghost use Rattle.tap_forward.specs.Bridges.{sent_for, skipped_for, tx_request};
 ghost use Rattle.tap_forward.specs.Forwarders.{forwarded_of, new_forwarder};
@@ -122,7 +121,6 @@ pub fn forward_workers<S: Source + Send, G: Gate + Sync, R: Threads + Wait + Syn
     ticks: &MomentList,
     gate: &G,
 ) -> Result<ForwardRan<S>, Memory>
-    requires setup { IsRunnable job.now.setup }
     requires request { receive_fault job.now.setup.request ≡ None }
     requires shape { job.now.setup.shape ≡ job.now.setup.request }
     requires sources { length sources.items ≡ length job.now.setup.cpus }

@@ -16,7 +16,6 @@ use Rattle.run_reports.specs.Reports.{IsReport}
 use Rattle.run_reports.proofs.ArrivalOrder.{AreNumbered, arrive}
 use Rattle.setup_text.specs.TickOrder.{IsSchedule}
 use Rattle.setup_text.specs.declared.lines.Line.{Line}
-use Rattle.setup_text.specs.Runnable.{IsRunnable}
 use Rattle.setup_text.specs.declared.jobs.Job.{Job}
 use Rattle.tp_layout.specs.Requests.{size_of}
 use Rattle.tp_layout.specs.declared.requests.RingRequest.{RingRequest}
@@ -38,14 +37,13 @@ member_lawful shape asked ring h = record {
 }
 
 module _ (law : AreNumbered) (reports : ReportsGroup) (job : Job) (lines : List Line) (all : List (List ℕ)) (ends : List CpuEnd)
-    (setup : IsRunnable job.setup)
     (schedule : IsSchedule lines) (many : length ends ≡ length all) where
   abbrev steps : RingSteps
   steps = block_steps (size_of job.setup.shape)
 
   report : IsReplayReport (rules_of job) steps.size.room (IsRingReport (size_of job.setup.shape)) (arriving_of job all)
       (replay_of job lines all)
-  report = reports (rules_of job) (size_of job.setup.shape) (arriving_of job all) lines setup.some_members
+  report = reports (rules_of job) (size_of job.setup.shape) (arriving_of job all) lines job.runnable.some_members
       (arrive law job all) schedule
 
   pub is_group : IsReport (rules_of job) job.setup.shape job.setup.dump (arriving_of job all) (report_of job lines all ends)

@@ -4,7 +4,6 @@ ghost use Rattle.capture_file.specs.declared.cpu_end.CpuEnd.{CpuEnd};
 ghost use Rattle.setup_text.specs.declared.lines.Line.{Line};
 ghost use Rattle.setup_text.specs.TickOrder.{IsSchedule};
 ghost use Rattle.run_reports.specs.Reports.{IsRunReport};
-ghost use Rattle.setup_text.specs.Runnable.{IsRunnable};
 ghost use Rattle.setup_text.specs.declared.jobs.Job.{Job};
 ghost use Rattle.receive_ring.specs.Reports.{IsRingReport};
 ghost use Rattle.tp_layout.specs.Requests.{size_of};
@@ -32,7 +31,6 @@ pub fn replay<S: Source>(
     sources: Vec<Option<S>>,
     schedule: &Schedule,
 ) -> Result<Ran<S>, Memory>
-    requires setup { IsRunnable job.now.setup }
     requires sources { length sources.items ≡ length job.now.setup.cpus }
     requires schedule { IsSchedule schedule.now }
     requires few { length schedule.now < 2 ^ 32 }
@@ -53,10 +51,10 @@ pub fn replay<S: Source>(
 /// names one that wasn't released.
 pub fn a_job_reports_a_group()
     ensures run { (job : Job) (lines : List Line) (all : List (List ℕ)) (ends : List CpuEnd)
-        → IsRunnable job.setup → IsSchedule lines → length ends ≡ length all
+        → IsSchedule lines → length ends ≡ length all
         → IsRunReport job all ends (report_of job lines all ends) }
     ensures rings { (job : Job) (lines : List Line) (all : List (List ℕ)) (ends : List CpuEnd)
-        → IsRunnable job.setup → IsSchedule lines → length ends ≡ length all
+        → IsSchedule lines → length ends ≡ length all
         → All (IsRingReport (size_of job.setup.shape)) (replay_of job lines all).members }
 {
     frames_are_numbered();

@@ -19,7 +19,6 @@ use Rattle.run_reports.proofs.Shorts.{short_members}
 use Rattle.run_reports.proofs.ArrivalOrder.{AreNumbered, arrive}
 use Rattle.setup_text.specs.TickOrder.{IsSchedule}
 use Rattle.setup_text.specs.declared.lines.Line.{Line}
-use Rattle.setup_text.specs.Runnable.{IsRunnable}
 use Rattle.setup_text.specs.declared.jobs.Job.{Job}
 use Rattle.run_reports.specs.declared.reports.RunReport.{RunReport}
 use Rattle.slot_layout.proofs.SlotBounds.{slot_bounds}
@@ -40,7 +39,6 @@ EachOnce = (rules : Rules) (room : ℕ) (cpus : List Logged) (members : List (Li
     → EachArrivalAppearsOnce rules cpus members
 
 module _ (law : AreNumbered) (once : EachOnce) (job : Job) (lines : List Line) (all : List (List ℕ)) (ends : List CpuEnd)
-    (setup : IsRunnable job.setup)
     (slots : IsSlotShape job.setup.shape) (schedule : IsSchedule lines) (many : length ends ≡ length all) where
   abbrev size : Size
   size = slot_size_of job.setup.shape
@@ -51,7 +49,7 @@ module _ (law : AreNumbered) (once : EachOnce) (job : Job) (lines : List Line) (
   report : IsReplayReport (rules_of job) size.room (IsSlotRingReport size) (arriving_of job all) (slot_replay_of job lines all)
   report = report_is (IsOpenSlots size) (rules_of job) steps (slots_keep size) (IsSlotRingReport size) (closed_slots size)
       (arriving_of job all) lines
-      setup.some_members (arrive law job all) schedule
+      job.runnable.some_members (arrive law job all) schedule
 
   abbrev of : RunReport
   of = report_with (slot_member_of job.setup.dump) all ends (slot_replay_of job lines all)

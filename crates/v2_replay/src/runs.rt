@@ -3,7 +3,6 @@ ghost use Rattle.std.specs.Prelude.{◌≡◌, ◌^◌, ◌<◌, ℕ, List, leng
 ghost use Rattle.capture_file.specs.declared.cpu_end.CpuEnd.{CpuEnd};
 ghost use Rattle.setup_text.specs.TickOrder.{IsSchedule};
 ghost use Rattle.setup_text.specs.declared.lines.Line.{Line};
-ghost use Rattle.setup_text.specs.Runnable.{IsRunnable};
 ghost use Rattle.setup_text.specs.declared.jobs.Job.{Job};
 ghost use Rattle.slot_layout.specs.SlotShapes.{IsSlotShape, slot_size_of};
 ghost use Rattle.v2_replay.specs.SlotReports.{IsSlotRingReport, IsSlotRunReport};
@@ -30,7 +29,6 @@ pub fn replay_v2<S: Source>(
     sources: Vec<Option<S>>,
     schedule: &Schedule,
 ) -> Result<Ran<S>, Memory>
-    requires setup { IsRunnable job.now.setup }
     requires slots { IsSlotShape job.now.setup.shape }
     requires sources { length sources.items ≡ length job.now.setup.cpus }
     requires schedule { IsSchedule schedule.now }
@@ -51,11 +49,11 @@ pub fn replay_v2<S: Source>(
 /// saying that a slot was still the reader's names one that wasn't released.
 pub fn a_job_over_slots_reports_a_group()
     ensures run { (job : Job) (lines : List Line) (all : List (List ℕ)) (ends : List CpuEnd)
-        → IsRunnable job.setup → IsSlotShape job.setup.shape → IsSchedule lines
+        → IsSlotShape job.setup.shape → IsSchedule lines
         → length ends ≡ length all
         → IsSlotRunReport job all ends (slot_report_of job lines all ends) }
     ensures rings { (job : Job) (lines : List Line) (all : List (List ℕ)) (ends : List CpuEnd)
-        → IsRunnable job.setup → IsSlotShape job.setup.shape → IsSchedule lines
+        → IsSlotShape job.setup.shape → IsSchedule lines
         → length ends ≡ length all
         → All (IsSlotRingReport (slot_size_of job.setup.shape))
         (slot_replay_of job lines all).members }

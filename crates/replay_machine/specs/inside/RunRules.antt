@@ -6,7 +6,6 @@ use Rattle.fanout_group.specs.declared.judgements.ArrivalRules.{ArrivalRules}
 use Rattle.replay_machine.specs.RunStates.{IsRun, RunValue}
 use Rattle.receive_ring.specs.RingSteps.{RingSteps}
 use Rattle.run_reports.specs.Jobs.{lens_of}
-use Rattle.setup_text.specs.Runnable.{IsRunnable}
 use Rattle.setup_text.specs.declared.jobs.Job.{Job}
 
 -- the rules of a job for the arrivals of one CPU
@@ -19,6 +18,5 @@ pub record AreRulesAt (steps : RingSteps) (job : Job) (cpu : ℕ) (rules : Arriv
 -- a run of a job, and that job's rules for one of its CPUs
 pub record IsRunBy (steps : RingSteps) (job : Job) (cpu : ℕ) (rules : ArrivalRules)
     (run : RunValue) : Type 0 where
-  pub setup : IsRunnable job.setup
   pub rules_are : AreRulesAt steps job cpu rules
   pub run_is : IsRun steps job run

@@ -130,6 +130,6 @@ returns g c =
     c.run_both-pool_workers.ensures.decoded run.takers parted.passes parted.numbered parted.full _ c.in_ok-left.ensures.left _
     c.in_ok-outputs.ensures.1
     parted.pieces parted.tables c.in_ok-outputs.ensures.2 in
-    let reported = c.in_ok-report.ensures.ran c.args.job.now c.args.ticks.now run.bytes run.ends c.requires.setup run.run
+    let reported = c.in_ok-report.ensures.ran c.args.job.now c.args.ticks.now run.bytes run.ends run.run
     outputs in
     record { ran = record { bytes = run.bytes; ends = run.ends; gave = run.gave; run = reported.0; captured = reported.1 } }

@@ -4,7 +4,7 @@ use Rattle.ring_model.specs.Ring.{state_of}
 use Rattle.tp_layout.specs.Requests.{size_of}
 
 pub returns : goal.returns
-returns c = λ job notes ring setup of.
+returns c = λ job notes ring of.
     read_all c.a_text_is_read_as_it_was_written.ensures job.setup.shape 1 ring.retired
     (state_of (size_of job.setup.shape) notes).done
-    setup.ring.small of.texts
+    job.runnable.ring.small of.texts

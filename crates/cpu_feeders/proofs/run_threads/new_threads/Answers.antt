@@ -7,16 +7,16 @@ use Rattle.cpu_feeders.proofs.run_threads.new_threads.Goals as goal
 
 pub open_group-requires : goal.open_group-requires
 open_group-requires g c = record {
-  few = subst (λ (n : ℕ). n ≤ 8) (sym (c.len-cpus.ensures ∙ c.args.sources.ok.0 ∙ c.requires.sources)) c.requires.setup.few;
+  few = subst (λ (n : ℕ). n ≤ 8) (sym (c.len-cpus.ensures ∙ c.args.sources.ok.0 ∙ c.requires.sources)) c.args.job.now.runnable.few;
 }
 
 pub deal-requires-clause-some : goal.deal-requires-clause-some
 deal-requires-clause-some g c =
-    subst (λ (n : ℕ). 0 < n) (sym (c.len-cpus.ensures ∙ c.args.sources.ok.0 ∙ c.requires.sources)) c.requires.setup.some
+    subst (λ (n : ℕ). 0 < n) (sym (c.len-cpus.ensures ∙ c.args.sources.ok.0 ∙ c.requires.sources)) c.args.job.now.runnable.some
 
 pub deal-requires-clause-few : goal.deal-requires-clause-few
 deal-requires-clause-few g c =
-    subst (λ (n : ℕ). n ≤ 8) (sym (c.len-cpus.ensures ∙ c.args.sources.ok.0 ∙ c.requires.sources)) c.requires.setup.few
+    subst (λ (n : ℕ). n ≤ 8) (sym (c.len-cpus.ensures ∙ c.args.sources.ok.0 ∙ c.requires.sources)) c.args.job.now.runnable.few
 
 pub threads_of-requires-clause-group : goal.threads_of-requires-clause-group
 threads_of-requires-clause-group g c =

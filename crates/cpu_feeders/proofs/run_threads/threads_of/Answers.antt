@@ -31,7 +31,7 @@ feeders_of-requires-clause-users g c =
     omega (arith, many, taken, sources)
 
 pub feeders_of-requires-clause-few : goal.feeders_of-requires-clause-few
-feeders_of-requires-clause-few g c = subst (λ (n : ℕ). n ≤ 8) (sym c.requires.sources) c.requires.setup.few
+feeders_of-requires-clause-few g c = subst (λ (n : ℕ). n ≤ 8) (sym c.requires.sources) c.args.job.now.runnable.few
 
 pub feeders_of-requires-clause-seats : goal.feeders_of-requires-clause-seats
 feeders_of-requires-clause-seats g c = c.requires.dealt.count ∙ sym c.requires.sources

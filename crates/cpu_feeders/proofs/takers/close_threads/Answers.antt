@@ -62,8 +62,8 @@ returns g c = λ moments firsts takers worked.
     c.in_ok-workers.ensures.seats c.in_ok-append.ensures.items in
     let run = left.taker_run worked kinds.full c.in_ok-closed.closed.items closed.0 c.threads_leave_a_group.ensures
     c.threads_leave_what_sources_gave.ensures
-    (λ notes ring is. c.blocks_are_read_as_they_were_noted.ensures c.args.job.now notes ring c.requires.setup is)
-    c.requires.setup closed.1
+    (λ notes ring is. c.blocks_are_read_as_they_were_noted.ensures c.args.job.now notes ring is)
+    closed.1
     c.close.ensures.dealt (c.in_ok-left.ensures.cpus ∙ ap (λ (fs : List (Feeder g.row.S.Denot)). map fed.feed_in fs)
     kinds.feeders) c.in_ok-cpus.ensures in
     rw (

@@ -13,9 +13,6 @@ use Rattle.cpu_feeders.proofs.takers.run_takers.Goals as goal
 pub run_all-requires-clause-moments : goal.run_all-requires-clause-moments
 run_all-requires-clause-moments g c κs within = subst AreMoments (sym c.as_slice.ensures) c.requires.moments
 
-pub close_threads-requires-clause-setup : goal.close_threads-requires-clause-setup
-close_threads-requires-clause-setup g c = c.requires.setup
-
 pub run_all-requires-clause-some : goal.run_all-requires-clause-some
 run_all-requires-clause-some g c κs within =
     rw c.deref_mut.ensures.value
@@ -31,17 +28,20 @@ run_all-requires-clause-ready g c κs within =
     rw (c.deref_mut.ensures.value, c.deref.ensures.value)
     (λ k d below. at_place P c.in_ok-threads.threads.workers.items k d ready below)
 
-pub close_threads-requires-clause-worked : goal.close_threads-requires-clause-worked
-close_threads-requires-clause-worked g c =
-    let firsts = map (option_map {T = g.row.S.Denot} {U = SourceSeen} g.S.Source.seen) c.args.sources.items in (
-      c.args.ticks.now,
-      firsts,
-      c.args.takers.items,
-      have_worked g.T.Taker.base g.T.Taker.taken c.args.job.now c.args.ticks.now _ firsts c.args.takers.items _ _ _ _ _ _ _ _
-          c.in_ok-threads.ensures
-          c.as_slice.ensures c.deref.ensures.value c.deref_mut.ensures.value c.deref_mut.ensures.len c.run_all.ensures.count
-          c.run_all.ensures.done,
-    )
+pub close_threads-requires : goal.close_threads-requires
+close_threads-requires g c =
+    let firsts = map (option_map {T = g.row.S.Denot} {U = SourceSeen} g.S.Source.seen) c.args.sources.items in
+    record {
+      worked = (
+        c.args.ticks.now,
+        firsts,
+        c.args.takers.items,
+        have_worked g.T.Taker.base g.T.Taker.taken c.args.job.now c.args.ticks.now _ firsts c.args.takers.items _ _ _ _ _ _ _ _
+            c.in_ok-threads.ensures
+            c.as_slice.ensures c.deref.ensures.value c.deref_mut.ensures.value c.deref_mut.ensures.len c.run_all.ensures.count
+            c.run_all.ensures.done,
+      );
+    }
 
 pub returns : goal.returns
 returns g c =

@@ -41,5 +41,5 @@ returns g c =
     c.in_ok-readers.ensures run.takers).1 in
     let outputs = subst (λ (outputs : List Outputs). AllZip (AreOutputsOf setup.shape setup.dump) workers.notes.items outputs)
     (sym c.in_ok-outputs.ensures) read in
-    let reported = c.in_ok-report.ensures.ran job c.args.ticks.now run.bytes run.ends c.requires.setup run.run outputs in
+    let reported = c.in_ok-report.ensures.ran job c.args.ticks.now run.bytes run.ends run.run outputs in
     record { ran = record { bytes = run.bytes; ends = run.ends; gave = run.gave; run = reported.0; captured = reported.1 } }

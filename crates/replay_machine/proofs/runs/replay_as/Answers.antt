@@ -16,7 +16,7 @@ loop-line-init g c =
     let few : length (map (option_map {T = g.row.S.Denot} {U = SourceSeen} g.S.Source.seen) c.args.sources.items) ≤ 8 =
     let count = length-map c.args.sources.items (option_map {T = g.row.S.Denot} {U = SourceSeen} g.S.Source.seen) in
     let as_many = c.requires.sources in
-    let most = c.requires.setup.few in
+    let most = c.args.job.now.runnable.few in
     omega (arith, count, as_many, most) in
     let did = did_first (g.R.ReceiveRing.steps g.K.Setting.shape) c.args.job.now c.args.schedule.now _ c.in_ok-run.run' few
     c.in_ok-run.ensures c.requires.schedule in

@@ -1,11 +1,12 @@
-use Rattle.std.proofs.Common.{Bool, refl, sym, subst, None}
+use Rattle.std.proofs.Common.{Bool, refl, sym, subst, ap, None, inr}
 use Rattle.std.proofs.lemmas.Result.{err_from_is_err_and}
-use Rattle.tap_engine.specs.Commands.{Named, named_by}
+use Rattle.setup_text.specs.declared.commands.Command.{Command}
+use Rattle.tap_engine.specs.Commands.{Named, named_by, sends}
 use Rattle.tap_engine.specs.Findings.{IsSentBy, faults_in}
-use Rattle.tap_engine.proofs.Counted.{counts_later}
+use Rattle.tap_engine.proofs.Counted.{counts_later, counts_none}
 use Rattle.tap_engine.proofs.Meant.{names_meant}
-use Rattle.tap_engine.proofs.Worked.{first_meant, replays_scheduled, replays_unsent, run_meant}
-use Rattle.tap_engine.proofs.Worked.{schedule_meant, ticks_are, ticks_meant}
+use Rattle.tap_engine.proofs.Worked.{checks, first_meant, made_read, replays_scheduled, replays_unsent}
+use Rattle.tap_engine.proofs.Worked.{run_meant, schedule_meant, send_asked, sent_found, ticks_are, ticks_meant}
 use Rattle.tap_engine.proofs.command_runs.work.Goals as goal
 
 pub load_moments-requires-after_bounds : goal.load_moments-requires-after_bounds
@@ -79,3 +80,49 @@ returns-in_ok-report-in-Replay-clause-found g c = λ start loaded.
           (sym (replays_unsent named.command c.in-Replay.is)) tt,
       refl,
     )
+
+pub returns-in_err-send_capture-in-Send-clause-stop :
+    goal.returns-in_err-send_capture-in-Send-clause-stop
+returns-in_err-send_capture-in-Send-clause-stop g c =
+    let named : Named = named_by c.args.asked.command c.args.asked.setup.now
+    c.args.asked.schedule.now in
+    let p = err_from_is_err_and c.from_residual-in_err-send_capture-in-Send.result
+    c.from_residual-in_err-send_capture-in-Send.ensures.1 in
+    rw (p.1, p.2) (λ start loaded.
+    inr (send_asked start.held named c.args.job.now c.in-Send.is loaded.job_is))
+
+pub returns-in_ok-load_moments-in-Check-clause-found :
+    goal.returns-in_ok-load_moments-in-Check-clause-found
+returns-in_ok-load_moments-in-Check-clause-found g c = λ start loaded.
+    let named : Named = named_by c.args.asked.command c.args.asked.setup.now
+    c.args.asked.schedule.now in
+    let moments = c.in_ok-load_moments-in-Check.ensures in
+    checks start (g.S.Store.seen c.args.store.now) (g.S.Store.seen c.load_moments.new.store) named
+    c.args.job.now c.in_ok-load_moments-in-Check.field-0 c.in-Check.is loaded moments.ticks
+    moments.texts.unfailed
+
+pub returns-in_ok-replay_made-in-Make-clause-found :
+    goal.returns-in_ok-replay_made-in-Make-clause-found
+returns-in_ok-replay_made-in-Make-clause-found g c = λ start loaded.
+    let named : Named = named_by c.args.asked.command c.args.asked.setup.now
+    c.args.asked.schedule.now in
+    let old = g.S.Store.seen c.args.store.now in
+    let report = c.in_ok-replay_made-in-Make.field-0 in
+    let made = c.in_ok-replay_made-in-Make.ensures in (
+      made.reported start old named c.in-Make.is
+          (made_read start old named c.args.job.now c.in-Make.is loaded),
+      counts_later (faults_in report.cpus) start old old loaded.texts.unfailed
+          (counts_none (faults_in report.cpus) old made.faults),
+      subst (λ (sent : Bool). IsSentBy sent c.args.job.now.setup report None)
+          (sym (ap (λ (command : Command). sends command) c.in-Make.is)) tt,
+      refl,
+    )
+
+pub returns-in_ok-send_capture-in-Send-clause-found :
+    goal.returns-in_ok-send_capture-in-Send-clause-found
+returns-in_ok-send_capture-in-Send-clause-found g c = λ start loaded.
+    let named : Named = named_by c.args.asked.command c.args.asked.setup.now
+    c.args.asked.schedule.now in
+    sent_found start (g.S.Store.seen c.args.store.now) (g.S.Store.seen c.send_capture.new.store)
+    named c.args.job.now c.in_ok-send_capture-in-Send.field-0 c.in-Send.is loaded
+    c.in_ok-send_capture-in-Send.ensures.sent c.in_ok-send_capture-in-Send.ensures.faults

@@ -37,7 +37,7 @@ returns g c =
     workers.takers.items c.in_ok-forwarders.ensures run.takers in
     let outputs = outputs_left setup.shape _ setup.dump workers.notes.items workers.takers.items _ c.in_ok-ended.ensures.outputs
     ended in
-    let reported = c.in_ok-report.ensures.ran job c.args.ticks.now run.bytes run.ends c.requires.setup run.run outputs in
+    let reported = c.in_ok-report.ensures.ran job c.args.ticks.now run.bytes run.ends run.run outputs in
     let many = rings_many setup.shape workers.notes.items workers.rings.items run.run.rings_are in
     let room = one_room setup.request setup.shape c.tx_shape-tx.result c.tx_shape-tx.ensures.shape c.requires.shape in
     let members = ap (λ (os : List Outputs). member_reports workers.notes.items workers.rings.items os)

@@ -33,4 +33,4 @@ returns g c =
     by_each c.feed.result (λ job. IsRunBy steps job cpu rules now) (λ job more. Feeds steps job cpu more now _)
     (λ job by. told_fed steps job cpu rules c.self.inside.cpus.items c.self.inside.group c.index_mut.result.now now
     c.self.view_is c.index_mut.ensures.value c.requires.cpu c.feed.result c.feed.new.self c.feed.new.group by.run_is
-    by.setup.few_members by.rules_are c.feed.ensures.fed)
+    job.runnable.few_members by.rules_are c.feed.ensures.fed)

@@ -18,7 +18,6 @@ feed-requires-clause-run g c =
     let told = c.rules_with-rules.ensures in (
       c.args.job.now,
       record {
-        setup = c.requires.setup;
         rules_are = record { agrees = told.agrees; queue_is = told.queue; room_is = told.room ∙ c.requires.bytes.room_is };
         run_is = c.feeding.invariant.run;
       },
@@ -34,7 +33,6 @@ feeding-preserved g c =
     let i = c.feeding.invariant in
     let told = c.rules_with-rules.ensures in
     let by = c.in_ok-feed.ensures job (record {
-      setup = c.requires.setup;
       rules_are = record { agrees = told.agrees; queue_is = told.queue; room_is = told.room ∙ c.requires.bytes.room_is };
       run_is = i.run;
     }) in
@@ -50,7 +48,6 @@ returns g c =
     let i = c.feeding.invariant in
     let told = c.rules_with-rules.ensures in
     let by = c.in_ok-feed.ensures job (record {
-      setup = c.requires.setup;
       rules_are = record { agrees = told.agrees; queue_is = told.queue; room_is = told.room ∙ c.requires.bytes.room_is };
       run_is = i.run;
     }) in

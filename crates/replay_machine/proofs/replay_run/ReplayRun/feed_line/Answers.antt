@@ -12,7 +12,6 @@ feed-requires-clause-run g c =
     let told = c.rules_with.ensures in (
       c.args.job.now,
       record {
-        setup = c.requires.setup;
         rules_are = record { agrees = told.agrees; queue_is = told.queue; room_is = told.room ∙ c.requires.bytes.room_is };
         run_is = c.requires.run;
       },
@@ -24,7 +23,6 @@ returns-in_ok-feed g c =
     let job = c.args.job.now in
     let told = c.rules_with.ensures in
     let by = c.in_ok-feed.ensures job (record {
-      setup = c.requires.setup;
       rules_are = record { agrees = told.agrees; queue_is = told.queue; room_is = told.room ∙ c.requires.bytes.room_is };
       run_is = c.requires.run;
     }) in
