@@ -15,10 +15,11 @@ const SLEEP: u64 = 50;
 /// How a thread that polls for work waits between unsuccessful polls, so that other threads can
 /// run.
 ///
-/// It yields after each of the first 100 such polls in a row, and sleeps 50 microseconds after each
-/// later one. Both numbers are this project's own choice: a ring of a few small blocks is read
-/// without a sleep, and a thread that finds nothing for longer takes no processor from those that
-/// have work. No clause says how long it waits, or that it waits at all.
+/// It yields after each of the first 100 such polls in a row, and sleeps after each later one, for
+/// 50 microseconds unless the thread has something better to sleep on. Both numbers are this
+/// project's own choice: a ring of a few small blocks is read without a sleep, and a thread that
+/// finds nothing for longer takes no processor from those that have work. No clause says how long
+/// it waits, or that it waits at all.
 #[derive(Drop)]
 pub struct Idler {
     /// How many polls in a row were unsuccessful.
@@ -43,11 +44,19 @@ impl Idler {
 
     /// Lets other threads run, after an unsuccessful poll.
     pub fn wait<R: Wait>(&mut self, rt: &R) {
-        self.empty_looks = self.empty_looks.saturating_add(1);
-        if self.empty_looks > YIELDS {
+        if !self.yields() {
             self.sleeper.park_timeout(rt, Duration::from_micros(SLEEP));
-        } else {
-            thread::yield_now();
         }
+    }
+
+    /// Yields after an unsuccessful poll, and returns true; or returns false if the thread is to
+    /// sleep, since it has yielded often enough.
+    pub(crate) fn yields(&mut self) -> bool {
+        if self.empty_looks >= YIELDS {
+            return false;
+        }
+        self.empty_looks += 1;
+        thread::yield_now();
+        true
     }
 }

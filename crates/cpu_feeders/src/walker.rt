@@ -13,7 +13,12 @@ use frame_view::Memory;
 use reader_walk::Taker;
 use ring_words::{TableWalker, WalkerEnd};
 use std::sync::Wait;
+use std::time::Duration;
 use tp_layout::Block;
+
+/// How long a reader sleeps at most until it polls again, in microseconds. It is woken by the next
+/// block that is retired, but not by the end of the last feeder.
+const SLEEP: u64 = 200;
 
 /// The word of a block that is given back: it is the feeder's again (TP_STATUS_KERNEL of
 /// `linux/if_packet.h`).
@@ -79,7 +84,8 @@ fn take_next<T: Taker + Drop, G: Gate>(gate: &G, walker: &mut Walker<T>) -> bool
 
 /// Reads blocks until no feeder is live and no block waits, and gives each back as a free one.
 /// Feeders are counted before each poll, so that what they retired is seen. While no block waits
-/// the reader yields, and later sleeps, between its polls.
+/// the reader yields between its polls; later it sleeps until a block is retired, or 200
+/// microseconds, this project's own choice.
 pub(crate) fn run_walker<T: Taker + Drop, R: Wait, G: Gate>(
     rt: &R,
     shared: &Shared<G>,
@@ -101,8 +107,9 @@ pub(crate) fn run_walker<T: Taker + Drop, R: Wait, G: Gate>(
             idler.found();
         } else if live == 0 {
             return;
-        } else {
-            idler.wait(rt);
+        } else if !idler.yields() {
+            let most = Duration::from_micros(SLEEP);
+            walker.end.wait_for_block(rt, most);
         }
     }
     unreachable!()
