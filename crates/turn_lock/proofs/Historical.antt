@@ -13,7 +13,8 @@ use Rattle.turn_lock.proofs.TicketLooks.{inside_with}
 
 module _ {V E B : Type 0} (stored : V → List E) (base : V → B) (may_add : B → ℕ → E → Bool) (b : B) (f : List E) (n : ℕ) where
   -- at most one ticket isn't served to its end
-  one_at_most : (s : State (Option V) (Knows E B)) (r : Turns stored base may_add b f n s) → length r.owners ≤ length r.added + 1
+  one_at_most : (s : State (Option V) (Knows E B)) (r : Turns stored base may_add b f n s)
+      → length r.owners ≤ length r.added + 1
   one_at_most s r = ⊎_elim (λ home. let even = home.4 in omega (arith, even)) (λ out. let one = out.1 in omega (arith, one))
       r.value_is
 
@@ -58,7 +59,15 @@ module _ {V E B : Type 0} (stored : V → List E) (base : V → B) (may_add : B 
         (ok.drawn_is, ok.few);
     each_turn = r.each_turn;
     each_waits = λ i j v p represents. waits s r i j represents.0 v p represents.1.0 represents.1.1;
-    value_is = ⊎_elim (λ home. inl (home.0, home.1, home.2, home.3, past_end r.owners (length r.added) (let even = home.4 in omega (arith, even))))
+    value_is =
+        ⊎_elim
+        (λ home. inl (
+          home.0,
+          home.1,
+          home.2,
+          home.3,
+          past_end r.owners (length r.added) (let even = home.4 in omega (arith, even)),
+        ))
         (λ out. let j : ℕ = out.2.0 in let v = out.2.1 in
         let has = inside_with stored base may_add b f n s r j v out.2.2 out.2.3 in let p = has.0.0 in
         inr (

@@ -1,5 +1,6 @@
 -- What the turn history says of one seat, and how a seat's place in it moves on.
-use Rattle.std.proofs.Common.{◌≡◌, ℕ, zero, suc, ◌+◌, ◌*◌, ◌<◌, ◌≤◌, ◌≢◌, ◌^◌, eqb, eq-eqb, ne_eqb, cond, Bool, List, [], ◌∷◌, ◌++◌, length}
+use Rattle.std.proofs.Common.{◌≡◌, ℕ, zero, suc, ◌+◌, ◌*◌, ◌<◌, ◌≤◌, ◌≢◌, ◌^◌, eqb, eq-eqb, ne_eqb, cond, Bool, List, [], ◌∷◌}
+use Rattle.std.proofs.Common.{◌++◌, length}
 use Rattle.std.proofs.Common.{take, drop, set, get_or, sym, refl, ap, ◌∙◌, subst, arith, append_assoc, length-append, Option}
 use mathlib.Core.Option.{some, some-injective}
 use lib.ListN.{get_elem?}

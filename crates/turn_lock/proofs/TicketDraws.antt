@@ -50,7 +50,8 @@ module _ {E B : Type 0} {b : B} {f : List E} {owners : List ℕ} {added : List (
   -- the place of the seat that draws it
   pub place_draws : {p : Place E} (entries : List E) → length added ≤ length owners → p.drawn < 2 ^ 32
       → PlaceOk b f owners added seat_of made j v p
-      → PlaceOk b f (owners ++ p.number ∷ []) added seat_of made j (entered v (length owners) entries) (record p { drawn = p.drawn + 1 })
+      → PlaceOk b f (owners ++ p.number ∷ []) added seat_of made j (entered v (length owners) entries)
+      (record p { drawn = p.drawn + 1 })
   place_draws {p} entries behind few ok = record {
     base_is = ok.base_is;
     first_is = ok.first_is;

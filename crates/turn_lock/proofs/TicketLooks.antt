@@ -31,11 +31,13 @@ module _ {V E B : Type 0} (stored : V → List E) (base : V → B) (may_add : B 
       subst (λ (z : Stage). StageOk r.owners r.added (f ++ all_added r.added) v z) inside (r.each_stage id v at)
 
   -- a seat that is inside is another than one that is idle
-  pub inside_else : (s : State (Option V) (Knows E B)) (id : ℕ) (v w : Knows E B) → get_elem? s.views id ≡ some v → v.stage ≡ Idle
+  pub inside_else : (s : State (Option V) (Knows E B)) (id : ℕ) (v w : Knows E B) → get_elem? s.views id ≡ some v
+      → v.stage ≡ Idle
       → (j : ℕ) (u : Knows E B) → get_elem? s.views j ≡ some u → u.stage ≡ Inside → get_elem? (set s.views id w) j ≡ some u
   inside_else s id v w at idle j u to inside = set_else s.views id j w
       (λ e. idle_not_inside u.stage
-      (ap (λ (z : Knows E B). z.stage) (some-injective u v (sym to ∙ ap (λ (z : ℕ). get_elem? s.views z) e ∙ at)) ∙ idle) inside)
+      (ap (λ (z : Knows E B). z.stage) (some-injective u v (sym to ∙ ap (λ (z : ℕ). get_elem? s.views z) e ∙ at))
+      ∙ idle) inside)
       ∙ to
 
   -- the history after the look
@@ -77,7 +79,8 @@ module _ {V E B : Type 0} (stored : V → List E) (base : V → B) (may_add : B 
         (at_set s.views id j w u to);
     value_is =
         ⊎_elim (λ home. inl home)
-        (λ out. let has = out.2 in inr (out.0, out.1, (has.0, has.1, inside_else s id v w at idle has.0 has.1 has.2 has.3, has.3)))
+        (λ out. let has = out.2 in
+        inr (out.0, out.1, (has.0, has.1, inside_else s id v w at idle has.0 has.1 has.2 has.3, has.3)))
         r.value_is;
   }
 

@@ -1,5 +1,6 @@
 -- A turn ends: the turn history stays, with what the turn added.
-use Rattle.std.proofs.Common.{◌≡◌, ℕ, ◌+◌, ◌<◌, ◌≤◌, ◌≢◌, Bool, List, [], ◌∷◌, ◌++◌, length, set, refl, sym, ap, ◌∙◌, subst, ⊎_elim}
+use Rattle.std.proofs.Common.{◌≡◌, ℕ, ◌+◌, ◌<◌, ◌≤◌, ◌≢◌, Bool, List, [], ◌∷◌, ◌++◌, length, set, refl, sym, ap, ◌∙◌, subst}
+use Rattle.std.proofs.Common.{⊎_elim}
 use Rattle.std.proofs.Common.{inl, eq-or-lt_of_le, arith, append_assoc, length-append, length-set, get_or-set_same}
 use Rattle.std.proofs.Common.{get_or-set_other, Option, Some, unwrap_or}
 use Rattle.std.proofs.Math.Seq.{take-length}

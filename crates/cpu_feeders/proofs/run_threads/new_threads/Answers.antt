@@ -7,7 +7,8 @@ use Rattle.cpu_feeders.proofs.run_threads.new_threads.Goals as goal
 
 pub open_group-requires : goal.open_group-requires
 open_group-requires g c = record {
-  few = subst (λ (n : ℕ). n ≤ 8) (sym (c.len-cpus.ensures ∙ c.args.sources.ok.0 ∙ c.requires.sources)) c.args.job.now.runnable.few;
+  few = subst (λ (n : ℕ). n ≤ 8) (sym (c.len-cpus.ensures ∙ c.args.sources.ok.0 ∙ c.requires.sources))
+      c.args.job.now.runnable.few;
 }
 
 pub deal-requires-clause-some : goal.deal-requires-clause-some

@@ -49,7 +49,10 @@ module _ (T A B : RattleType) where
   S = History.the_row (param 0 T)
 
   abbrev stayed : Stays ended.signature.params ended.kept
-  stayed = (stay_none_ref (0 ∷ []) tt (plain (λ _. param 1 A)) yes, (stay_none_ref (1 ∷ []) tt (plain (λ _. param 2 B)) yes, tt))
+  stayed = (
+    stay_none_ref (0 ∷ []) tt (plain (λ _. param 1 A)) yes,
+    (stay_none_ref (1 ∷ []) tt (plain (λ _. param 2 B)) yes, tt),
+  )
 
   module _ {M : Type 1} {𝓤 : Ura M} (𝓛 : Logic 𝓤) (at_mem : Memory → SProp 𝓤) (run : Routine → Fun 𝓤) where
     open 𝓛 use {H}

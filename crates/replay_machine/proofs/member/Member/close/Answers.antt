@@ -12,7 +12,11 @@ close-requires g c =
     record {
       may = may_be g.R.ReceiveRing.may g.R.Unit.Layout.taken_in g.R.ReceiveRing.reads g.R.ReceiveRing.steps
           g.K.Setting.shape g.K.Setting.dumps
-          (record { ring = g.R.ReceiveRing.seen c.self.inside.ring; reader = c.self.inside.reader; stuck = c.self.inside.stuck })
+          (record {
+            ring = g.R.ReceiveRing.seen c.self.inside.ring;
+            reader = c.self.inside.reader;
+            stuck = c.self.inside.stuck;
+          })
           c.self.invariant;
     }
 

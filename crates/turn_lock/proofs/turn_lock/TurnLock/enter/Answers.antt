@@ -28,9 +28,11 @@ invariant_of-seat g c =
     let old = c.seat.inside.seat in let ok = c.seat.invariant in
     let idle = idle_of old.me.0.stage old.me.0.seen old.me.1 ok.holds (ap (λ s. s.turn) c.seat.view_is ∙ c.requires.outside) in
     let has = c.wait_turn-ticket.ensures.value in let y = c.unwrap.result in
-    let same = same_value c.wait_turn-ticket.new.seat.me.1 _ _ c.exchange.result has.0 y (ap (λ m. m.1) has.1) c.exchange.ensures.2
+    let same = same_value c.wait_turn-ticket.new.seat.me.1 _ _ c.exchange.result has.0 y (ap (λ m. m.1) has.1)
+    c.exchange.ensures.2
     c.unwrap.ensures in
     entered_seat g.V.Kept.stored old c.exchange.new.seat c.wait_turn-ticket.result c.seat.inside.ticket (g.V.Kept.stored y) ok
     c.wait_turn-ticket.ensures.small
-    (entered_me g.V.Kept.stored old.me c.wait_turn-ticket.new.seat.me c.exchange.new.seat.me has.0 y c.wait_turn-ticket.result idle.1 has.1
+    (entered_me g.V.Kept.stored old.me c.wait_turn-ticket.new.seat.me c.exchange.new.seat.me has.0 y
+    c.wait_turn-ticket.result idle.1 has.1
     c.exchange.ensures.3 same)
