@@ -1,4 +1,5 @@
 pub mod BitLists
 pub mod BothWays
+pub mod Halves
 pub mod HexTexts
 pub mod Windows

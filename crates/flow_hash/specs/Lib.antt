@@ -1,3 +1,4 @@
 pub mod FlowHash
 pub mod HexKey
 pub mod Toeplitz
+pub mod inside

@@ -4,6 +4,7 @@
 
 mod flows;
 mod hash_keys;
+mod key_table;
 mod toeplitz_hash;
 
 pub use flows::flow_hash;

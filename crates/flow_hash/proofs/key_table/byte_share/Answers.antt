@@ -2,7 +2,7 @@ use Rattle.std.proofs.Common.{arith, refl}
 use Rattle.flow_hash.proofs.Windows.{window_of}
 use Rattle.flow_hash.proofs.BitLists.{toeplitz_of-bit}
 use Rattle.flow_hash.specs.Toeplitz.{toeplitz_of, bits_of}
-use Rattle.flow_hash.proofs.toeplitz_hash.byte_share.Goals as goal
+use Rattle.flow_hash.proofs.key_table.byte_share.Goals as goal
 
 pub loop-bit-init : goal.loop-bit-init
 unfolding toeplitz_of

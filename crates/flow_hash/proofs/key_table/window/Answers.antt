@@ -1,6 +1,6 @@
 use Rattle.std.proofs.Common.{arith, get_or, rules}
 use Rattle.flow_hash.proofs.Windows.{take_five, number_of_five}
-use Rattle.flow_hash.proofs.toeplitz_hash.window.Goals as goal
+use Rattle.flow_hash.proofs.key_table.window.Goals as goal
 
 pub returns : goal.returns
 returns c =

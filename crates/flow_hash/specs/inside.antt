@@ -1,0 +1,2 @@
+-- What only this crate's own proofs and private functions cite.
+pub mod KeyTable
