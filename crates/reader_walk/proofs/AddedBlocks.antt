@@ -1,23 +1,14 @@
 -- A reader with one more block or slot.
-use Rattle.std.proofs.Common.{◌≡◌, ℕ, Bool, List, [], ◌∷◌, ◌++◌, ◌∙◌, ap, refl, subst, sym}
+use Rattle.std.proofs.Common.{◌≡◌, ℕ, Bool, List, ◌∙◌, ap, refl, subst, sym}
 use Rattle.std.specs.Prelude.{OnErr, OnOk, Option, Result, Ok, Err}
 use Rattle.frame_view.specs.declared.memory.Memory.{Memory}
 use Rattle.tp_layout.specs.Layouts.{Taken}
 use Rattle.tp_layout.specs.declared.requests.RingRequest.{RingRequest}
 use Rattle.reader_walk.specs.Readers.{ReaderValue, has_read}
-use Rattle.reader_walk.specs.ReadersInside.{IsSound, blocks_of, mark_of, reader_value}
+use Rattle.reader_walk.specs.ReadersInside.{Adds, IsSound, blocks_of, reader_value}
 use Rattle.reader_walk.specs.Texts.{kept_if}
 use Rattle.reader_walk.specs.declared.copies.Copies.{Copies}
 use Rattle.reader_walk.proofs.MarkedBlocks.{counted_more, dump_more, one_more}
-
--- what was taken was added to what was read, with this part of its text, or all is as before
-pub record Adds (taken : Taken) (text : List ℕ) (before after : Copies) (result : Result (Unit {0}) Memory) : Type 0 where
-  pub marks : OnOk result (after.marks.items ≡ before.marks.items ++ mark_of taken ∷ [])
-  pub walked : OnOk result (after.walked.items ≡ before.walked.items ++ taken.packets)
-  pub dump : OnOk result (after.dump.items ≡ before.dump.items ++ text)
-  pub same_marks : OnErr result (after.marks.items ≡ before.marks.items)
-  pub same_walked : OnErr result (after.walked.items ≡ before.walked.items)
-  pub same_dump : OnErr result (after.dump.items ≡ before.dump.items)
 
 sound_with : (text : RingRequest → Taken → List ℕ) (shape : RingRequest) (dumps : Bool) (before after : Copies) (taken : Taken)
     (result : Result (Unit {0}) Memory) → IsSound text shape dumps before

@@ -1,5 +1,6 @@
 //! The packets of the blocks or slots that were read, and which packets are of which block.
-ghost use Rattle.std.specs.Prelude.{◌≡◌, ℕ, [], ◌∷◌, ◌++◌, OnErr, OnOk};
+ghost use Rattle.std.specs.Prelude.{◌≡◌, ◌+◌, ◌-◌, ◌≤◌, ℕ, [], ◌∷◌, ◌++◌, length, take, vec_len};
+ghost use Rattle.std.specs.Prelude.{vec_capacity, IfOk, OnErr, OnOk};
 ghost use Rattle.reader_walk.specs.Texts.{kept_if};
 
 use frame_view::{Memory, Packet};
@@ -29,7 +30,7 @@ pub(crate) struct Copies {
 }
 
 impl Copies {
-    ghost use Rattle.reader_walk.specs.ReadersInside.{mark_of};
+    ghost use Rattle.reader_walk.specs.ReadersInside.{Adds};
 
     /// Adds a block or a slot that may be retired, with copies of its packets, and with its text if
     /// texts are kept. After `Memory` all is as before.
@@ -40,14 +41,48 @@ impl Copies {
         dumps: bool,
     ) -> Result<(), Memory>
         requires ready { (number : ℕ) × (status : ℕ) × B.ready unit.now number status }
-        ensures marks { OnOk result (self.new.marks.items ≡ self.old.marks.items
-            ++ mark_of (B.taken_in (B.shape unit.now) (B.bytes unit.now)) ∷ []) }
-        ensures walked { OnOk result (self.new.walked.items ≡ self.old.walked.items
-            ++ (B.taken_in (B.shape unit.now) (B.bytes unit.now)).packets) }
+        ensures { Adds (B.taken_in (B.shape unit.now) (B.bytes unit.now))
+            (kept_if dumps
+            (B.text_of (B.shape unit.now) (B.taken_in (B.shape unit.now) (B.bytes unit.now))))
+            self.old self.new result }
+    {
+        let texts = self.add_text(unit, dumps)?;
+        let earlier = self.walked.len();
+        let pushed = unit.push_packets(alloc, &mut self.walked);
+        self.add_mark(unit.head(), earlier, texts, pushed)
+    }
+
+    /// Adds a block or a slot as `add` does, whose packets may keep its memory.
+    pub(crate) fn take_over<B: Layout>(
+        &mut self,
+        alloc: Global,
+        unit: B,
+        dumps: bool,
+    ) -> Result<(), Memory>
+        requires ready { (number : ℕ) × (status : ℕ) × B.ready unit number status }
+        ensures { Adds (B.taken_in (B.shape unit) (B.bytes unit))
+            (kept_if dumps
+            (B.text_of (B.shape unit) (B.taken_in (B.shape unit) (B.bytes unit))))
+            self.old self.new result }
+    {
+        let texts = self.add_text(&unit, dumps)?;
+        let earlier = self.walked.len();
+        let head = unit.head();
+        let pushed = unit.into_packets(alloc, &mut self.walked);
+        self.add_mark(head, earlier, texts, pushed)
+    }
+
+    /// Makes room for a mark, and adds the text of a block or a slot if texts are kept; returns how
+    /// many bytes of texts there were. After `Memory` all is as before.
+    fn add_text<B: Layout>(&mut self, unit: &B, dumps: bool) -> Result<usize, Memory>
+        requires ready { (number : ℕ) × (status : ℕ) × B.ready unit.now number status }
+        ensures count { IfOk result (λ count. count ≡ length self.old.dump.items) }
         ensures dump { OnOk result (self.new.dump.items ≡ self.old.dump.items ++ kept_if dumps
             (B.text_of (B.shape unit.now) (B.taken_in (B.shape unit.now) (B.bytes unit.now)))) }
-        ensures same_marks { OnErr result (self.new.marks.items ≡ self.old.marks.items) }
-        ensures same_walked { OnErr result (self.new.walked.items ≡ self.old.walked.items) }
+        ensures room { OnOk result
+            (vec_len self.new.marks + 1 ≤ vec_capacity self.new.marks) }
+        ensures marks { self.new.marks.items ≡ self.old.marks.items }
+        ensures walked { self.new.walked ≡ self.old.walked }
         ensures same_dump { OnErr result (self.new.dump.items ≡ self.old.dump.items) }
     {
         self.marks.reserve(1)?;
@@ -55,16 +90,42 @@ impl Copies {
         if dumps {
             self.dump.extend_from_slice(unit.text())?;
         }
-        let earlier = self.walked.len();
-        if unit.push_packets(alloc, &mut self.walked).is_err() {
+        Ok(texts)
+    }
+
+    /// Adds the mark of a block or a slot whose packets were pushed, or takes back what was pushed
+    /// of them and its text.
+    fn add_mark(
+        &mut self,
+        head: (u64, u32),
+        earlier: usize,
+        texts: usize,
+        pushed: Result<(), Memory>,
+    ) -> Result<(), Memory>
+        requires room { vec_len self.old.marks + 1 ≤ vec_capacity self.old.marks }
+        requires earlier { earlier ≤ length self.old.walked.items }
+        ensures passed_on { result ≡ pushed }
+        ensures marks { OnOk result (self.new.marks.items ≡ self.old.marks.items ++ record {
+          number = head.0;
+          status = head.1;
+          packets = length self.old.walked.items - earlier;
+        } ∷ []) }
+        ensures walked { OnOk result (self.new.walked.items ≡ self.old.walked.items) }
+        ensures dump { OnOk result (self.new.dump.items ≡ self.old.dump.items) }
+        ensures same_marks { OnErr result (self.new.marks.items ≡ self.old.marks.items) }
+        ensures front { OnErr result
+            (self.new.walked.items ≡ take earlier self.old.walked.items) }
+        ensures front_texts { OnErr result
+            (self.new.dump.items ≡ take texts self.old.dump.items) }
+    {
+        if pushed.is_err() {
             self.walked.truncate(earlier);
             self.dump.truncate(texts);
             return Err(Memory);
         }
-        let (number, status) = unit.head();
         self.marks.push_reserved(Mark {
-            number,
-            status,
+            number: head.0,
+            status: head.1,
             packets: self.walked.len() - earlier,
         });
         Ok(())

@@ -9,12 +9,13 @@ ghost use Rattle.std.specs.Prelude.{◌≡◌, ◌≢◌, ◌+◌, ◌<◌, ◌�
 ghost use Rattle.std.specs.Prelude.{length, is_some, IfNone, IfOk, IfSome, IsTrue, OnErr, OnOk};
 ghost use Rattle.std.specs.Prelude.{OnSome};
 ghost use Rattle.ring_words.specs.Counts.{Rose};
+ghost use Rattle.ring_words.specs.PlainRings.{Stays, Took, walk_of};
 ghost use Rattle.tp_layout.specs.Requests.{numbers_of};
 
 use crate::copies::Copies;
 use crate::{Outputs, Taker};
 use frame_view::{ByteList, Memory, Packet, Packets};
-use ring_words::WalkerEnd;
+use ring_words::{ClosingRing, WalkerEnd};
 use std::alloc::Global;
 use std::marker::Model;
 use tp_layout::{Block, Layout, Shape};
@@ -150,6 +151,47 @@ impl<B: Layout> RingReader<B> {
         ensures err { OnErr result (self.new ≡ self.old) }
     {
         self.copies.add(self.alloc, unit, self.dumps)
+    }
+
+    /// Takes a block or a slot out of a ring whose feeder is done, and reads it; `false` if none
+    /// waits. Its packets may keep its memory, so it isn't given back. After `Memory` it is lost.
+    pub fn take_over(&mut self, ring: &mut ClosingRing<B>) -> Result<bool, Memory>
+        requires kind { (walk_of ring.old).ring.kind ≡ numbers_of self.old.shape }
+        requires hand { (walk_of ring.old).in_hand ≡ is_some self.old.held }
+        requires few { length self.old.taken < 2 ^ 55 }
+
+        // One more block or slot is read: the one that it held, or otherwise the one that was taken
+        // in this call.
+        ensures read { IfOk result (λ stepped. IsTrue stepped
+            → Reads B.taken_in (Took ring.old ring.new) self.old self.new) }
+
+        // None was there, and nothing changes except the count of looks that found none.
+        ensures none { IfOk result (λ stepped. stepped ≡ false → self.old.held ≡ None) }
+        ensures same { IfOk result (λ stepped. stepped ≡ false → self.new ≡ self.old) }
+        ensures stays { IfOk result (λ stepped. stepped ≡ false → Stays ring.old ring.new) }
+        ensures waiting { IfOk result (λ stepped. stepped ≡ false
+            → (blocks : ℕ) → (walk_of ring.old).waiting ≡ Some blocks → blocks ≡ 0) }
+
+        ensures hand { IfOk result (λ _. (walk_of ring.new).in_hand ≡ is_some self.new.held) }
+    {
+        let Some(unit) = self.next_unit(ring) else {
+            return Ok(false);
+        };
+        ring.release_place(FREE);
+        self.keep_block(unit)?;
+        Ok(true)
+    }
+
+    /// Reads a block or a slot for good: its packets may keep its memory. After `Memory` nothing
+    /// has changed but that it is lost.
+    fn keep_block(&mut self, unit: B) -> Result<(), Memory>
+        requires readable { IsRetiredUnit B.shape B.ready self.old.shape unit }
+        requires few { length self.old.taken < 2 ^ 55 }
+        ensures read { OnOk result (self.new
+            ≡ record (has_read B.taken_in (B.bytes unit) self.old) { held = self.old.held }) }
+        ensures err { OnErr result (self.new ≡ self.old) }
+    {
+        self.copies.take_over(self.alloc, unit, self.dumps)
     }
 
     /// The packets that were read so far, in order.

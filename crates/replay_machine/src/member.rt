@@ -136,8 +136,8 @@ impl<R: ReceiveRing, K: Setting> Member<R, K> {
         }
     }
 
-    /// Closes the ring, and reads all that still waits. Each block or slot is dropped once it is
-    /// read.
+    /// Closes the ring, and reads all that still waits. Packets may keep the memory of their block;
+    /// all other memory of the ring is freed.
     pub(crate) fn close(self, alloc: Global) -> Result<MemberReport, Memory>
         ensures { IfOk result (λ report. report
             ≡ reported_by R.Unit.text_of R.reads K.shape K.dumps (finished_ring self)) }
@@ -147,7 +147,7 @@ impl<R: ReceiveRing, K: Setting> Member<R, K> {
         }
         let (mut waiting, notes) = self.ring.close(alloc)?;
         let mut reader = self.reader;
-        'waiting: while reader.step(&mut waiting)? {}
+        'waiting: while reader.take_over(&mut waiting)? {}
         let outputs = reader.outputs();
         Ok(MemberReport {
             notes,

@@ -1,8 +1,9 @@
 //! A ring on one thread whose feeder is done: the waiting blocks are read, and then dropped.
-ghost use Rattle.std.specs.Prelude.{◌≡◌, ◌+◌, ◌<◌, ◌≤◌, length, vec_capacity, IfOk, IfSome, IfNone};
-ghost use Rattle.std.specs.Prelude.{OnSome};
+ghost use Rattle.std.specs.Prelude.{◌≡◌, ◌+◌, ◌<◌, ◌≤◌, ℕ, true, false, List, length, vec_capacity};
+ghost use Rattle.std.specs.Prelude.{IfOk, IfSome, IfNone, OnSome};
 ghost use Rattle.std.specs.VecDeque.{deque_capacity};
-ghost use Rattle.ring_words.specs.PlainRings.{marks_of};
+ghost use Rattle.ring_words.specs.PlainRings.{GaveBack, PlainState, Took, marks_of, walk_of};
+ghost use Rattle.ring_words.specs.Rings.{IsMark};
 
 use crate::plain_ring::{Filled, Vacant};
 use crate::{Content, WalkerEnd};
@@ -101,6 +102,21 @@ impl<B: Content + Drop> WalkerEnd<B> for ClosingRing<B> {
     }
 
     fn release(&mut self, _block: B, mark: u32) {
+        self.release_place(mark);
+    }
+}
+
+impl<B: Content + Drop> ClosingRing<B> {
+    /// Gives back the place of the block in hand, with this word, which is even and below 256, and
+    /// not the block: that stays with whoever took it.
+    pub fn release_place(&mut self, mark: u32)
+        requires hand { (walk_of self.old).in_hand ≡ true }
+        requires mark { IsMark mark }
+        ensures released { walk_of self.new ≡ record (walk_of self.old) { in_hand = false } }
+        ensures gave_back { GaveBack self.old self.new mark }
+        ensures took { (before : PlainState) (content : List ℕ) →
+            Took before self.old content → Took before self.new content }
+    {
         self.marks.push_reserved(mark);
         self.released += 1;
     }

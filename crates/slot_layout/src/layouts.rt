@@ -36,4 +36,8 @@ impl Layout for Slot {
         into.push(packet.to_packet(alloc)?)?;
         Ok(())
     }
+
+    fn into_packets(self, alloc: Global, into: &mut Vec<Packet>) -> Result<(), Memory> {
+        self.push_packets(alloc, into)
+    }
 }

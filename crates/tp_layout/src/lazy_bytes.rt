@@ -72,6 +72,13 @@ impl LazyBytes {
         self.written.as_slice()
     }
 
+    /// The bytes that were written, in their own memory.
+    pub(crate) fn into_written(self) -> Vec<u8>
+        ensures { result.items ≡ self.written.items }
+    {
+        self.written
+    }
+
     /// Makes them bytes of this size that can be written, if they were never written and have
     /// memory for it.
     pub fn begin(&mut self, size: u32)

@@ -1,5 +1,5 @@
 //! The packets of a block that passed its tests, one after another.
-ghost use Rattle.std.specs.Prelude.{◌≡◌, ◌≤◌, ◌++◌, length, take, IfOk, OnOk};
+ghost use Rattle.std.specs.Prelude.{◌≡◌, ◌≤◌, ◌++◌, length, take, drop, IfOk, OnOk};
 ghost use Rattle.tp_layout.specs.Faults.{packets_in};
 ghost use Rattle.tp_layout.specs.Checks.{PassesTests};
 ghost use Rattle.tp_layout.specs.Readers.{data_of, seen};
@@ -78,6 +78,41 @@ impl<'a> PacketWalk<'a> {
         }
         Ok(())
     }
+}
+
+/// Appends the packets of a piece of this size, which passed the tests and begin at this place.
+/// Their data stay where they are: they are parts of the piece. After `Memory` some of the packets
+/// follow those that were there.
+pub(crate) fn push_shared(
+    alloc: Global,
+    piece: &Piece,
+    first: u32,
+    size: u32,
+    count: u32,
+    into: &mut Vec<Packet>,
+) -> Result<(), Memory>
+    requires size { length piece.now ≡ size }
+    requires order { first ≤ size }
+    requires passes { PassesTests count (drop first piece.now) }
+    ensures packets { OnOk result
+        (into.new.items ≡ into.old.items ++ packets_in count (drop first piece.now)) }
+    ensures front { take (length into.old.items) into.new.items ≡ into.old.items }
+{
+    let area = piece.part(alloc, first, size - first)?;
+    into.reserve(count as usize)?;
+    let mut rest = area.as_slice();
+    let mut at = first;
+    let mut left = count;
+    while left > 0 {
+        let snap = u32_at(rest, 12);
+        let bytes = piece.part(alloc, at + 82, snap)?;
+        into.push_reserved(with_bytes(&packet_at(rest), bytes));
+        let (_, tail) = rest.split_at(need(snap) as usize);
+        rest = tail;
+        at += need(snap);
+        left -= 1;
+    }
+    Ok(())
 }
 
 /// The data of the packets of bytes that passed the tests, one after another.

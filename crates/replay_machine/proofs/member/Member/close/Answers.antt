@@ -31,18 +31,18 @@ waiting-init g c =
     }) c.args.self
     _ _ c.self.invariant c.if-self.false c.self.view_is c.in_ok-waiting.ensures
 
-pub step-requires-clause-kind : goal.step-requires-clause-kind
-step-requires-clause-kind g c =
+pub take_over-requires-clause-kind : goal.take_over-requires-clause-kind
+take_over-requires-clause-kind g c =
     c.waiting.invariant.kind_is ∙ ap (λ (shape : RingRequest). numbers_of shape) (sym c.waiting.invariant.shape_is)
 
-pub step-requires-clause-hand : goal.step-requires-clause-hand
-step-requires-clause-hand g c =
+pub take_over-requires-clause-hand : goal.take_over-requires-clause-hand
+take_over-requires-clause-hand g c =
     free_hand g.R.Unit.Layout.taken_in g.K.Setting.shape g.K.Setting.dumps
     (g.R.ReceiveRing.reads g.K.Setting.shape (noted c.args.self Finished).notes)
     c.waiting.waiting c.waiting.reader c.waiting.invariant
 
-pub step-requires-clause-few : goal.step-requires-clause-few
-step-requires-clause-few g c =
+pub take_over-requires-clause-few : goal.take_over-requires-clause-few
+take_over-requires-clause-few g c =
     few_read g.R.Unit.Layout.taken_in g.K.Setting.shape g.K.Setting.dumps
     (g.R.ReceiveRing.reads g.K.Setting.shape (noted c.args.self Finished).notes)
     c.waiting.waiting c.waiting.reader c.waiting.invariant
@@ -55,29 +55,29 @@ pub waiting-smaller : goal.waiting-smaller
 waiting-smaller g c =
     let one = next_read g.R.Unit.Layout.taken_in g.K.Setting.shape g.K.Setting.dumps
     (g.R.ReceiveRing.reads g.K.Setting.shape (noted c.args.self Finished).notes)
-    c.waiting.waiting c.step.new.end c.waiting.reader c.step.new.self c.waiting.invariant
-    (c.in_ok-step.ensures.read c.if-branch.true) c.in_ok-step.ensures.hand in
+    c.waiting.waiting c.take_over.new.ring c.waiting.reader c.take_over.new.self c.waiting.invariant
+    (c.in_ok-take_over.ensures.read c.if-branch.true) c.in_ok-take_over.ensures.hand in
     one.fewer
 
 pub waiting-preserved : goal.waiting-preserved
 waiting-preserved g c =
     let one = next_read g.R.Unit.Layout.taken_in g.K.Setting.shape g.K.Setting.dumps
     (g.R.ReceiveRing.reads g.K.Setting.shape (noted c.args.self Finished).notes)
-    c.waiting.waiting c.step.new.end c.waiting.reader c.step.new.self c.waiting.invariant
-    (c.in_ok-step.ensures.read c.if-branch.true) c.in_ok-step.ensures.hand in
+    c.waiting.waiting c.take_over.new.ring c.waiting.reader c.take_over.new.self c.waiting.invariant
+    (c.in_ok-take_over.ensures.read c.if-branch.true) c.in_ok-take_over.ensures.hand in
     one.has
 
 pub returns : goal.returns
 returns g c =
     let none = none_read g.R.Unit.Layout.taken_in g.K.Setting.shape g.K.Setting.dumps
     (g.R.ReceiveRing.reads g.K.Setting.shape (noted c.args.self Finished).notes)
-    c.waiting.waiting c.step.new.end c.waiting.reader c.step.new.self c.waiting.invariant
-    (c.in_ok-step.ensures.stays c.if-branch.false) (c.in_ok-step.ensures.same c.if-branch.false)
-    (c.in_ok-step.ensures.waiting c.if-branch.false (length c.waiting.waiting.shown) refl) in
-    closed_report g.R.Unit.Layout.text_of g.R.ReceiveRing.reads g.K.Setting.shape g.K.Setting.dumps _ _ c.step.new.self
+    c.waiting.waiting c.take_over.new.ring c.waiting.reader c.take_over.new.self c.waiting.invariant
+    (c.in_ok-take_over.ensures.stays c.if-branch.false) (c.in_ok-take_over.ensures.same c.if-branch.false)
+    (c.in_ok-take_over.ensures.waiting c.if-branch.false (length c.waiting.waiting.shown) refl) in
+    closed_report g.R.Unit.Layout.text_of g.R.ReceiveRing.reads g.K.Setting.shape g.K.Setting.dumps _ _ c.take_over.new.self
     c.outputs-outputs.result c.args.self
     c.in_ok-waiting.ensures.notes_are (ap (λ (ring : Ring). ring.notes) c.self.view_is) none.has.shape_is none.has.asked_is
     (all_read g.R.Unit.Layout.taken_in g.K.Setting.shape g.K.Setting.dumps
     (g.R.ReceiveRing.reads g.K.Setting.shape (noted c.args.self Finished).notes)
-    c.waiting.waiting c.step.new.end c.step.new.self none)
+    c.waiting.waiting c.take_over.new.ring c.take_over.new.self none)
     c.outputs-outputs.ensures
