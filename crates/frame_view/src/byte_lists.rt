@@ -37,8 +37,7 @@ struct Part {
     count: u32,
 }
 
-/// Bytes that are copied once and then handed out in parts, which share their memory. Contracts see
-/// them as a list.
+/// Bytes that are handed out in parts, which share their memory. Contracts see them as a list.
 #[derive(Debug, Drop)]
 pub struct Piece {
     bytes: Arc<Vec<u8>, Global>,
