@@ -3,11 +3,11 @@ use Rattle.std.proofs.Common.{◌≡◌, ℕ, ◌+◌, ◌≤◌, Bool, List, le
 use mathlib.Core.Option.{some, some-injective}
 use lib.ListN.{get_elem?}
 use Rattle.atomic_table.specs.Table.{State}
+use Rattle.history.proofs.Lists.{at_below, past_end}
 use Rattle.turn_lock.specs.declared.knowledge.Knows.{Knows}
 use Rattle.turn_lock.specs.declared.knowledge.Place.{Place}
 use Rattle.turn_lock.specs.History.{IsHistory}
 use Rattle.turn_lock.specs.Turns.{Turns}
-use Rattle.turn_lock.proofs.Totals.{at_below, past_end}
 use Rattle.turn_lock.proofs.Histories.{two_same, tickets_below, history_goes_on, one_holder}
 use Rattle.turn_lock.proofs.TicketLooks.{inside_with}
 

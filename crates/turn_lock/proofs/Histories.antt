@@ -1,19 +1,20 @@
 -- What the turn history says of one seat, and how a seat's place in it moves on.
-use Rattle.std.proofs.Common.{◌≡◌, ℕ, zero, suc, ◌+◌, ◌*◌, ◌<◌, ◌≤◌, ◌≢◌, ◌^◌, eqb, eq-eqb, ne_eqb, cond, Bool, List, [], ◌∷◌}
-use Rattle.std.proofs.Common.{◌++◌, length}
-use Rattle.std.proofs.Common.{take, drop, set, get_or, sym, refl, ap, ◌∙◌, subst, arith, append_assoc, length-append, Option}
+use Rattle.std.proofs.Common.{◌≡◌, ℕ, ◌+◌, ◌*◌, ◌≤◌, ◌≢◌, ◌^◌, eqb, eq-eqb, ne_eqb, cond, Bool, List, [], ◌∷◌}
+use Rattle.std.proofs.Common.{◌++◌, length, sum_by}
+use Rattle.std.proofs.Common.{take, drop, set, sym, refl, ap, ◌∙◌, subst, arith, append_assoc, length-append, Option}
 use mathlib.Core.Option.{some, some-injective}
 use lib.ListN.{get_elem?}
 use Rattle.atomic_table.specs.Table.{State}
+use Rattle.history.proofs.Lists.{at_below, item_at}
+use Rattle.history.proofs.Totals.{total_times}
 use Rattle.turn_lock.specs.declared.knowledge.Knows.{Knows}
 use Rattle.turn_lock.specs.declared.knowledge.Place.{Place}
 use Rattle.turn_lock.specs.declared.knowledge.Stage.{Stage}
 use Rattle.turn_lock.specs.declared.knowledge.Stage.TheVariants.{Idle, Inside}
 use Rattle.turn_lock.specs.Histories.{all_added, IsTurn, GoesOn}
-use Rattle.turn_lock.specs.SeatKnowledge.{parts_of, drawn_of, total, all_drawn}
+use Rattle.turn_lock.specs.SeatKnowledge.{parts_of, drawn_of, all_drawn}
 use Rattle.turn_lock.specs.Turns.{HasTicket, PlaceOk, Turns}
-use Rattle.turn_lock.proofs.Totals.{total_times, few_drawn, at_below, item_at}
-use Rattle.turn_lock.proofs.Lists.{added_split, added_few, turn_few, others_turns, drop_item}
+use Rattle.turn_lock.proofs.Lists.{few_drawn, added_split, added_few, turn_few, others_turns, drop_item}
 
 -- one of two numbers, by whether two others are the same
 pub chosen : (m n a b : ℕ) → m ≡ n → cond (eqb m n) a b ≡ a
@@ -30,14 +31,6 @@ module _ {A : Type 0} where
   pub two_same : (xs : List A) (k : ℕ) (a b : A) → get_elem? xs k ≡ some a → get_elem? xs k ≡ some b → a ≡ b
   two_same xs k a b at to = some-injective a b (sym at ∙ to)
 
--- the words with one written as it was
-pub words_again : (words : List ℕ) (k word : ℕ) → k < length words → word ≡ get_or words k 0 → set words k word ≡ words
-words_again [] k word below same = absurd (omega (arith, below))
-words_again (a ∷ words) zero word below same = ap (λ (z : ℕ). z ∷ words) same
-words_again (a ∷ words) (suc k) word below same =
-    ap (λ (z : List ℕ). a ∷ z) (words_again words k word (omega (arith, below)) same)
-
-module _ {A : Type 0} where
   -- a list of one item, after that one has changed
   pub set_only : (xs : List A) (a : A) → length xs ≡ 1 → set xs 0 a ≡ a ∷ []
   set_only [] a one = absurd (omega arith)
@@ -90,12 +83,12 @@ module _ {V E B : Type 0} (stored : V → List E) (base : V → B) (may_add : B 
 
   -- few tickets were drawn
   pub tickets_few : length r.owners ≤ n * 2 ^ 32
-  tickets_few = let sum = r.sum in let shares = r.shares in let few = total_times drawn_of parts_of s.views (λ j v at.
+  tickets_few = let sum = r.sum in let shares = r.shares in let few = total_times drawn_of parts_of (2 ^ 32) s.views (λ j v at.
       let drawn = few_drawn v.places (λ k p here. (r.each_place j k v p at here).few) in let d : ℕ = all_drawn v.places in
       let l : ℕ = length v.places in let x : ℕ = v.spare in
       let drawn' : d ≤ l * 2 ^ 32 = drawn in let g : d ≤ (l + x) * 2 ^ 32 = omega (arith, drawn') in g) in
-      let g : length r.owners ≤ total parts_of s.views * 2 ^ 32 =
-      subst (λ (z : ℕ). z ≤ total parts_of s.views * 2 ^ 32) sum few in
+      let g : length r.owners ≤ sum_by parts_of s.views * 2 ^ 32 =
+      subst (λ (z : ℕ). z ≤ sum_by parts_of s.views * 2 ^ 32) sum few in
       subst (λ (z : ℕ). length r.owners ≤ z * 2 ^ 32) shares g
 
   pub tickets_below : length r.owners ≤ 2 ^ 37

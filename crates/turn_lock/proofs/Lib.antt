@@ -1,4 +1,3 @@
-mod Totals
 pub mod Lists
 mod Histories
 mod PlacesApart

@@ -1,15 +1,14 @@
 -- What the turns added, and whose the tickets are.
-use Rattle.std.proofs.Common.{◌≡◌, ℕ, zero, suc, ◌+◌, ◌≤◌, ◌≢◌, eq-eqb, ne_eqb, Bool, true, false, cond, List, [], ◌∷◌, ◌++◌}
+use Rattle.std.proofs.Common.{◌≡◌, ℕ, zero, suc, ◌+◌, ◌≤◌, ◌≢◌, eq-eqb, ne_eqb, Bool, true, cond, List, [], ◌∷◌, ◌++◌}
 use Rattle.std.proofs.Common.{length, take, drop, sym, refl, ap, ◌∙◌, subst, arith, append_assoc, append-nil, length-append}
-use Rattle.std.proofs.Common.{if◌then◌else◌}
+use Rattle.std.proofs.Common.{if◌then◌else◌, ◌*◌, ◌^◌}
+use Rattle.std.proofs.lemmas.Bool.{false_from_ne_true}
 use Rattle.std.proofs.lemmas.List.Elements.{filter-append}
 use mathlib.Core.Option.{some, some-ne-none}
 use lib.ListN.{get_elem?}
+use Rattle.turn_lock.specs.declared.knowledge.Place.{Place}
 use Rattle.turn_lock.specs.Histories.{times, all_added, IsTurn, ByOthers, GoesOn, own}
-
-not_true : (b : Bool) → ¬ (b ≡ true) → b ≡ false
-not_true true never = absurd (never refl)
-not_true false never = refl
+use Rattle.turn_lock.specs.SeatKnowledge.{all_drawn}
 
 -- one more ticket
 pub times_more : (number owner : ℕ) (owners : List ℕ)
@@ -28,6 +27,19 @@ pub times_none : (number : ℕ) (owners : List ℕ) → ((i : ℕ) → ¬ (get_e
 times_none number [] none = refl
 times_none number (x ∷ owners) none = let here = times_else number x (λ e. none zero (ap some e)) in let rest =
     times_none number owners (λ i. none (suc i)) in omega (arith, here, rest)
+
+module _ {E : Type 0} where
+  -- each seat has few tickets, so all together have at most that bound times the number of seats
+  pub few_drawn : (places : List (Place E))
+      → ((i : ℕ) (place : Place E) → get_elem? places i ≡ some place → place.drawn ≤ 2 ^ 32)
+      → all_drawn places ≤ length places * 2 ^ 32
+  few_drawn [] each = omega arith
+  few_drawn (p ∷ places) each = let here = each zero p refl in let rest =
+      few_drawn places (λ i place at. each (suc i) place at) in omega (arith, here, rest)
+
+  pub drawn_join : (xs ys : List (Place E)) → all_drawn (xs ++ ys) ≡ all_drawn xs + all_drawn ys
+  drawn_join [] ys = omega arith
+  drawn_join (x ∷ xs) ys = let rest = drawn_join xs ys in omega (arith, rest)
 
 module _ {E : Type 0} where
   pub added_join : (xs ys : List (List E)) → all_added (xs ++ ys) ≡ all_added xs ++ all_added ys
@@ -81,7 +93,7 @@ module _ {E : Type 0} (may_add : ℕ → E → Bool) where
       → ByOthers may_add number es → own may_add number es ≡ []
   own_none alone number [] by_others = refl
   own_none alone number (e ∷ es) by_others =
-      let never = not_true (may_add number e) (λ yes. by_others.0.1 (alone by_others.0.0 number e by_others.0.2 yes)) in
+      let never = false_from_ne_true (may_add number e) (λ yes. by_others.0.1 (alone by_others.0.0 number e by_others.0.2 yes)) in
       ap (λ (b : Bool). cond b (e ∷ own may_add number es) (own may_add number es)) never ∙ own_none alone number es by_others.1
 
   -- where a list grows by others' entries, the seat's own entries are those that it began with
@@ -107,12 +119,6 @@ module _ {E : Type 0} (may_add : ℕ → E → Bool) where
       (own_stays alone number last before goes) ∙ ap (λ (z : List E). own may_add number last ++ z) (own_added number es turn)
 
 module _ {A : Type 0} where
-  -- a prefix of a list is one of a longer list
-  pub take_more : (k : ℕ) (xs : List A) (a : A) → k ≤ length xs → take k (xs ++ a ∷ []) ≡ take k xs
-  take_more zero xs a below = refl
-  take_more (suc k) [] a below = absurd (omega arith)
-  take_more (suc k) (x ∷ xs) a below = ap (λ (z : List A). x ∷ z) (take_more k xs a (omega arith))
-
   pub drop_item : (k i : ℕ) (xs : List A) (a : A) → get_elem? (drop k xs) i ≡ some a → get_elem? xs (k + i) ≡ some a
   drop_item zero i xs a at = subst (λ (z : ℕ). get_elem? xs z ≡ some a) (omega arith) at
   drop_item (suc k) i [] a at = absurd (some-ne-none a (sym at))

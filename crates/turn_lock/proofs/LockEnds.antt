@@ -1,22 +1,23 @@
 -- A lock is closed: one seat represents all, so no turn is left, and the value is back in its slot.
-use Rattle.std.proofs.Common.{◌≡◌, ℕ, zero, suc, ◌+◌, ◌≢◌, ◌==◌, if◌then◌else◌, Bool, List, [], ◌∷◌, ◌++◌, map, length, sym}
+use Rattle.std.proofs.Common.{◌≡◌, ℕ, suc, ◌+◌, ◌≢◌, ◌==◌, if◌then◌else◌, Bool, List, [], ◌∷◌, ◌++◌, map, length, sym}
 use Rattle.std.proofs.Common.{refl, ap, ◌∙◌, subst, ⊎_elim, arith, Option, Some}
 use Rattle.std.specs.List.{AllByRecursion}
-use mathlib.Core.Option.{some, none, some-injective, some-ne-none}
+use Rattle.std.proofs.lemmas.List.{nil_from_length}
+use mathlib.Core.Option.{some, some-injective}
 use mathlib.Core.Logic.{dite}
 use native.Mathlib.Decide.{ℕ_discrete}
 use lib.ListN.{get_elem?}
 use Rattle.atomic_table.specs.Table.{State, Final, Seen}
 use Rattle.atomic_table.proofs.Lists.{at_map}
+use Rattle.history.proofs.Totals.{total_both, total_one}
 use Rattle.turn_lock.specs.declared.knowledge.Knows.{Knows}
 use Rattle.turn_lock.specs.declared.knowledge.Place.{Place}
 use Rattle.turn_lock.specs.declared.knowledge.Stage.TheVariants.{Idle, Inside}
 use Rattle.turn_lock.specs.Histories.{times, all_added, GoesOn}
-use Rattle.turn_lock.specs.SeatKnowledge.{parts_of, drawn_of, total, all_drawn}
+use Rattle.turn_lock.specs.SeatKnowledge.{parts_of, drawn_of, all_drawn}
 use Rattle.turn_lock.specs.Seats.{SeatValue, entered_by, place_of}
 use Rattle.turn_lock.specs.Endings.{turns_of, added_in, IsTurnOf, HasTurns, Ends}
 use Rattle.turn_lock.specs.Turns.{Turns}
-use Rattle.turn_lock.proofs.Totals.{total_both}
 use Rattle.turn_lock.proofs.Histories.{idle_not_inside, history_goes_on}
 use Rattle.turn_lock.proofs.TicketLooks.{inside_with}
 
@@ -65,27 +66,7 @@ module _ {A : Type 0} where
   all_items P [] each = tt
   all_items P (x ∷ xs) each = (each 0 x refl, all_items P xs (λ i. each (suc i)))
 
-  -- a list of no items
-  nothing_in : (xs : List A) → length xs ≡ 0 → xs ≡ []
-  nothing_in [] none_there = refl
-  nothing_in (x ∷ xs) none_there = absurd (omega (arith, none_there))
-
 module _ {E B : Type 0} where
-  total_none : (f : Knows E B → ℕ) (views : List (Knows E B)) → ((j : ℕ) (u : Knows E B) → get_elem? views j ≡ some u → f u ≡ 0)
-      → total f views ≡ 0
-  total_none f [] each = refl
-  total_none f (x ∷ views) each = let here = each 0 x refl in let rest = total_none f views (λ j. each (suc j)) in
-      omega (arith, here, rest)
-
-  -- where all others have none, the sum is that of one
-  total_one : (f : Knows E B → ℕ) (views : List (Knows E B)) (id : ℕ) (v : Knows E B) → get_elem? views id ≡ some v
-      → ((j : ℕ) (u : Knows E B) → j ≢ id → get_elem? views j ≡ some u → f u ≡ 0) → total f views ≡ f v
-  total_one f [] id v at each = absurd (some-ne-none v (sym at))
-  total_one f (x ∷ views) zero v at each = let same : f x ≡ f v = ap f (some-injective x v at) in let rest =
-      total_none f views (λ j u. each (suc j) u (λ e. omega (arith, e))) in omega (arith, same, rest)
-  total_one f (x ∷ views) (suc id) v at each = let here = each 0 x (λ e. omega (arith, e)) refl in let rest =
-      total_one f views id v at (λ j u other. each (suc j) u (λ e. other (omega (arith, e)))) in omega (arith, here, rest)
-
   drawn_seats : (seats : List (SeatValue E B)) → all_drawn (map place_of seats) ≡ entered_by seats
   drawn_seats [] = refl
   drawn_seats (seat ∷ seats) = ap (λ (z : ℕ). seat.entered + z) (drawn_seats seats)
@@ -100,7 +81,7 @@ module _ {V E B : Type 0} (stored : V → List E) (base : V → B) (may_add : B 
       → get_elem? s.views id ≡ some v → v.stage ≡ Idle → length v.places ≡ n
       → (j : ℕ) (u : Knows E B) → get_elem? s.views j ≡ some u → j ≢ id → u.places ≡ []
   nobody s r id v at idle all j u to other = let both = total_both parts_of s.views j id u v other to at in let shares =
-      r.shares in nothing_in u.places (omega (arith, both, shares, all))
+      r.shares in nil_from_length u.places (omega (arith, both, shares, all))
 
   not_inside : (s : State (Option V) (Knows E B)) (r : Turns stored base may_add b f n s) (id : ℕ) (v : Knows E B)
       → get_elem? s.views id ≡ some v → v.stage ≡ Idle → length v.places ≡ n

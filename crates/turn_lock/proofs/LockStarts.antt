@@ -1,6 +1,7 @@
 -- A lock is made: its table opens with the first seat, which makes the others.
 use Rattle.std.proofs.Common.{◌≡◌, ℕ, ◌+◌, ◌<◌, ◌≤◌, eqb, cond, Bool, List, [], ◌∷◌, ◌++◌, length, set, sym, refl, ap, ◌∙◌}
 use Rattle.std.proofs.Common.{subst, ⊎_elim, inl, inr, le_refl, arith, append-nil, length-set, Some}
+use Rattle.std.proofs.lemmas.List.Sums.{sum_by_push}
 use mathlib.Core.Option.{some, some-injective, some-ne-none}
 use mathlib.Core.Logic.{dite}
 use native.Mathlib.Decide.{ℕ_discrete}
@@ -8,6 +9,8 @@ use lib.ListN.{get_elem?}
 use Rattle.atomic_table.specs.Table as table
 use Rattle.atomic_table.specs.Table.{State, Splits}
 use Rattle.atomic_table.proofs.Lists.{at_set, set_here, set_else, at_longer}
+use Rattle.history.proofs.Lists.{at_below, at_more, only_item}
+use Rattle.history.proofs.Totals.{total_set}
 use Rattle.turn_lock.specs.declared.knowledge.Knows.{Knows}
 use Rattle.turn_lock.specs.declared.knowledge.Place.{Place}
 use Rattle.turn_lock.specs.declared.knowledge.Stage.{Stage}
@@ -15,7 +18,6 @@ use Rattle.turn_lock.specs.declared.knowledge.Stage.TheVariants.{Idle, Inside}
 use Rattle.turn_lock.specs.Histories.{all_added}
 use Rattle.turn_lock.specs.SeatKnowledge.{parts_of, drawn_of, fresh_place, opening, maker, newcomer}
 use Rattle.turn_lock.specs.Turns.{StageOk, PlaceOk, Turns}
-use Rattle.turn_lock.proofs.Totals.{total_set, total_more, at_below, at_more, only_item}
 use Rattle.turn_lock.proofs.Lists.{times_none}
 use Rattle.turn_lock.proofs.PlacesApart.{apart_one, apart_set, apart_more}
 use Rattle.turn_lock.proofs.Histories.{chosen, passed, place_moves, place_lies}
@@ -89,14 +91,14 @@ module _ {V E B : Type 0} (stored : V → List E) (base : V → B) (may_add : B 
     each_turn = λ i number entries mine turn. absurd (some-ne-none number (sym mine));
     each_place = λ j k v p at here. ⊎_elim (λ nothing. absurd (some-ne-none v (sym nothing)))
         (λ last. subst (λ (z : Knows E B). get_elem? z.places k ≡ some p → PlaceOk b f [] [] (λ _. 0) 1 j z p) last.1
-        (λ is. let w = opening b f n in let fresh = only_item w.places (fresh_place 0 f) p k refl is in
+        (λ is. let w = opening b f n in let fresh = (only_item w.places (fresh_place 0 f) p k refl is).1 in
         subst (λ (z : Place E). PlaceOk b f [] [] (λ _. 0) 1 j w z) fresh
         (fresh_ok w 0 0 refl refl refl last.0 (omega arith) (λ i mine. some-ne-none 0 (sym mine)))) here)
         (at_more [] (opening b f n) v j at);
     each_apart = apart_more [] (opening b f n) (λ j v at. absurd (some-ne-none v (sym at)))
         (apart_one ((opening b f n).places) (fresh_place 0 f) refl);
     each_stage = λ j v at. subst (λ (z : Knows E B). StageOk [] [] (f ++ []) z z.stage)
-        (only_item (opening b f n ∷ []) (opening b f n) v j refl at) (le_refl 0);
+        (only_item (opening b f n ∷ []) (opening b f n) v j refl at).1 (le_refl 0);
     each_maker = λ j v at spare. ⊎_elim (λ nothing. absurd (some-ne-none v (sym nothing)))
         (λ last. subst (λ (z : Knows E B). 0 < z.spare → (j ≡ 0) × (z.next ≡ 1) × (1 + z.spare ≡ n)) last.1
         (λ more. (last.0, refl, omega (arith, some_seat))) spare)
@@ -132,9 +134,9 @@ module _ {V E B : Type 0} (stored : V → List E) (base : V → B) (may_add : B 
         behind = r.behind;
         few = r.few;
         within = let all = is_maker.2 in omega (arith, all, some_spare);
-        shares = let sums = total_set parts_of s.views id v w at in let more = total_more parts_of views u in let old =
+        shares = let sums = total_set parts_of s.views id v w at in let more = sum_by_push parts_of views u in let old =
             r.shares in omega (arith, sums, more, old, some_spare);
-        sum = let sums = total_set drawn_of s.views id v w at in let more = total_more drawn_of views u in let old = r.sum in
+        sum = let sums = total_set drawn_of s.views id v w at in let more = sum_by_push drawn_of views u in let old = r.sum in
             omega (arith, sums, more, old);
         owned = λ i number mine. let under = r.owned i number mine in omega (arith, under);
         each_turn = r.each_turn;
@@ -148,7 +150,7 @@ module _ {V E B : Type 0} (stored : V → List E) (base : V → B) (may_add : B 
             (at_set s.views id j w t among))
             (λ last. subst (λ (z : Knows E B). get_elem? z.places k ≡ some q
             → PlaceOk b f r.owners r.added seats (made + 1) j z q) last.1
-            (λ is. let fresh = only_item u.places (fresh_place v.next v.first) q k refl is in
+            (λ is. let fresh = (only_item u.places (fresh_place v.next v.first) q k refl is).1 in
             subst (λ (z : Place E). PlaceOk b f r.owners r.added seats (made + 1) j u z) fresh
             (fresh_ok u v.next (length views) ok.base_is ok.first_is (chosen v.next made (length views) (r.seat_of v.next) next)
             last.0 (let g : v.next < made + 1 = omega (arith, next) in g) never)) here)

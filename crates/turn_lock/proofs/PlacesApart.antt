@@ -1,25 +1,17 @@
 -- Each seat of the lock has one place: no two places of a seat of the table are those of one seat.
-use Rattle.std.proofs.Common.{◌≡◌, ◌≢◌, ℕ, zero, suc, ◌+◌, List, [], ◌∷◌, ◌++◌, length, set, sym, ap, ◌∙◌, subst, ⊎_elim, arith}
+use Rattle.std.proofs.Common.{◌≡◌, ◌≢◌, ℕ, ◌+◌, List, [], ◌∷◌, ◌++◌, length, set, sym, ap, ◌∙◌, subst, ⊎_elim}
 use mathlib.Core.Option.{some, some-ne-none}
 use lib.ListN.{get_elem?}
 use Rattle.atomic_table.proofs.Lists.{at_set}
+use Rattle.history.proofs.Lists.{at_both, at_more, only_item}
 use Rattle.turn_lock.specs.declared.knowledge.Knows.{Knows}
 use Rattle.turn_lock.specs.declared.knowledge.Place.{Place}
 use Rattle.turn_lock.specs.Turns.{AreApart}
-use Rattle.turn_lock.proofs.Totals.{at_both, at_more}
-
-module _ {A : Type 0} where
-  first_alone : (a q : A) (k : ℕ) → get_elem? (a ∷ []) k ≡ some q → k ≡ 0
-  first_alone a q zero at = omega arith
-  first_alone a q (suc k) at = absurd (some-ne-none q (sym at))
-
-  -- the place of an item in a list of one
-  only_place : (xs : List A) (a q : A) (k : ℕ) → xs ≡ a ∷ [] → get_elem? xs k ≡ some q → k ≡ 0
-  only_place xs a q k one at = first_alone a q k (subst (λ (z : List A). get_elem? z k ≡ some q) one at)
 
 module _ {E : Type 0} where
   pub apart_one : (places : List (Place E)) (place : Place E) → places ≡ place ∷ [] → AreApart places
-  apart_one places place one k l p q at to same = only_place places place p k one at ∙ sym (only_place places place q l one to)
+  apart_one places place one k l p q at to same =
+      (only_item places place p k one at).0 ∙ sym (only_item places place q l one to).0
 
   pub apart_none : (places : List (Place E)) → places ≡ [] → AreApart places
   apart_none places none_there k l p q at to same =

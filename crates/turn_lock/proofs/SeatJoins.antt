@@ -1,19 +1,20 @@
 -- A seat takes in another: the turn history stays.
 use Rattle.std.proofs.Common.{◌≡◌, ℕ, ◌+◌, ◌<◌, ◌≤◌, ◌≢◌, eqb, cond, Bool, List, [], ◌++◌, length, set, sym, refl, ap, ◌∙◌}
-use Rattle.std.proofs.Common.{subst, ⊎_elim}
-use Rattle.std.proofs.Common.{inl, inr, le_refl, arith, length-append}
+use Rattle.std.proofs.Common.{subst, sum_by, ⊎_elim, inl, inr, le_refl, arith, length-append}
 use mathlib.Core.Option.{some, some-injective, some-ne-none}
 use lib.ListN.{get_elem?}
 use Rattle.atomic_table.specs.Table.{Joins}
 use Rattle.atomic_table.proofs.Lists.{at_set, set_else}
+use Rattle.history.proofs.Lists.{at_both}
+use Rattle.history.proofs.Totals.{total_set}
 use Rattle.turn_lock.specs.declared.knowledge.Knows.{Knows}
 use Rattle.turn_lock.specs.declared.knowledge.Place.{Place}
 use Rattle.turn_lock.specs.declared.knowledge.Stage.{Stage}
 use Rattle.turn_lock.specs.declared.knowledge.Stage.TheVariants.{Idle, Inside}
 use Rattle.turn_lock.specs.Histories.{all_added}
-use Rattle.turn_lock.specs.SeatKnowledge.{parts_of, drawn_of, total, joined, spent}
+use Rattle.turn_lock.specs.SeatKnowledge.{parts_of, drawn_of, joined, spent}
 use Rattle.turn_lock.specs.Turns.{StageOk, PlaceOk, Turns}
-use Rattle.turn_lock.proofs.Totals.{total_set, at_both, drawn_join}
+use Rattle.turn_lock.proofs.Lists.{drawn_join}
 use Rattle.turn_lock.proofs.PlacesApart.{apart_none, apart_join, apart_set}
 use Rattle.turn_lock.proofs.Histories.{chosen, passed, idle_not_inside, place_moves, place_lies}
 use Rattle.turn_lock.proofs.TicketLooks.{idle_with}
@@ -48,7 +49,7 @@ module _ {V E B : Type 0} (stored : V → List E) (base : V → B) (may_add : B 
       = λ k q here. let was = r.each_place other k w q old here in
       place_moves (place_lies seats r.made id was (chosen (r.seat_of q.number) other id (r.seat_of q.number) was.lies)
       (le_refl r.made)) (first.base_is ∙ sym was.base_is) (first.first_is ∙ sym was.first_is) in
-      let sums : (g : Knows E B → ℕ) → g both ≡ g v + g w → g spent ≡ 0 → total g (set mid other spent) ≡ total g s.views
+      let sums : (g : Knows E B → ℕ) → g both ≡ g v + g w → g spent ≡ 0 → sum_by g (set mid other spent) ≡ sum_by g s.views
       = λ g added empty. let a = total_set g s.views id v both at in let c = total_set g mid other w spent to in
       omega (arith, a, c, added, empty) in record {
         owners = r.owners;

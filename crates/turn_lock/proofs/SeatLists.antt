@@ -3,6 +3,7 @@ use Rattle.std.proofs.Common.{◌≡◌, ℕ, zero, suc, ◌+◌, ◌<◌, List,
 use Rattle.std.proofs.Common.{append-nil, sym, refl, ap, ◌∙◌, arith}
 use Rattle.std.specs.List.{AllByRecursion}
 use Rattle.std.proofs.Math.Seq.{take-length}
+pub use Rattle.history.proofs.Lists.{all_but}
 use Rattle.turn_lock.specs.Seats.{LockValue, SeatValue, fresh_seat, fresh_seats}
 
 module _ {E B : Type 0} where
@@ -34,11 +35,6 @@ module _ {E B : Type 0} where
       ∙ ap (fresh_seat lock) (let g : number + 1 + i ≡ number + suc i = omega arith in g)
 
 module _ {A : Type 0} where
-  -- what holds of each item except the last, and of the last
-  pub all_but : (P : A → Type 0) (xs : List A) (x : A) → AllByRecursion P (xs ++ x ∷ []) → AllByRecursion P xs × P x
-  all_but P [] x all = (tt, all.0)
-  all_but P (y ∷ xs) x all = let rest_all = all_but P xs x all.1 in ((all.0, rest_all.0), rest_all.1)
-
   -- what holds at each place
   pub all_places : (P : A → Type 0) (xs : List A) → ((i : ℕ) (d : A) → i < length xs → P (get_or xs i d)) → AllByRecursion P xs
   all_places P [] each = tt

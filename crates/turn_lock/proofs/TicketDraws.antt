@@ -3,6 +3,7 @@
 use Rattle.std.proofs.Common.{◌≡◌, ℕ, ◌+◌, ◌<◌, ◌≤◌, ◌≢◌, ◌^◌, ◌==◌, Bool, List, [], ◌∷◌, ◌++◌, length, set, get_or, sym, refl}
 use Rattle.std.proofs.Common.{ap, ◌∙◌, subst, ⊎_elim, inr, arith, length-append, length-set, eq-eqb, ne_eqb}
 use Rattle.std.proofs.Common.{get_or-set_same, get_or-set_other, Option, Some}
+use Rattle.std.proofs.lemmas.List.{set-get_or}
 use mathlib.Core.Option.{some, none}
 use mathlib.Core.Option as maybe
 use mathlib.Core.Logic.{dite}
@@ -11,6 +12,8 @@ use lib.ListN.{get_elem?}
 use prog.Atomic.{either}
 use Rattle.atomic_table.specs.Table.{State, Me, step, keeps, takes, Allows}
 use Rattle.atomic_table.proofs.Lists.{at_set, set_here, set_again, at_longer, at_last}
+use Rattle.history.proofs.Lists.{at_below, at_more, only_item}
+use Rattle.history.proofs.Totals.{total_set}
 use Rattle.turn_lock.specs.declared.knowledge.Knows.{Knows}
 use Rattle.turn_lock.specs.declared.knowledge.Place.{Place}
 use Rattle.turn_lock.specs.declared.knowledge.Stage.{Stage}
@@ -19,10 +22,9 @@ use Rattle.turn_lock.specs.Histories.{all_added, GoesOn}
 use Rattle.turn_lock.specs.SeatKnowledge.{parts_of, drawn_of, all_drawn, with_ticket, entered}
 use Rattle.turn_lock.specs.Turns.{StageOk, PlaceOk, Turns}
 use Rattle.turn_lock.specs.Steps.{MayDraw, Drew}
-use Rattle.turn_lock.proofs.Totals.{total_set, at_below, at_more, only_item}
 use Rattle.turn_lock.proofs.Lists.{times_more, times_same, times_else}
 use Rattle.turn_lock.proofs.PlacesApart.{apart_one, apart_set}
-use Rattle.turn_lock.proofs.Histories.{words_again, history_few, history_goes_on}
+use Rattle.turn_lock.proofs.Histories.{history_few, history_goes_on}
 use Rattle.turn_lock.proofs.TicketLooks.{idle_with}
 
 module _ {E B : Type 0} {b : B} {f : List E} {owners : List ℕ} {added : List (List E)} {seat_of : ℕ → ℕ} {made j : ℕ}
@@ -115,8 +117,8 @@ module _ {V E B : Type 0} (stored : V → List E) (base : V → B) (may_add : B 
             (λ last. let here = last.0 in let sooner = at_below r.added i entries turn in
             absurd (omega (arith, here, sooner, behind))) (at_more r.owners p.number number i mine);
         each_place = λ j k u q to here. ⊎_elim
-            (λ same. let drawn = only_item w.places (record p { drawn = p.drawn + 1 }) q k places
-            (subst (λ (z : Knows E B). get_elem? z.places k ≡ some q) (sym same.1) here) in
+            (λ same. let drawn = (only_item w.places (record p { drawn = p.drawn + 1 }) q k places
+            (subst (λ (z : Knows E B). get_elem? z.places k ≡ some q) (sym same.1) here)).1 in
             subst (λ (z : Place E). PlaceOk b f more r.added r.seat_of r.made j u z) drawn
             (subst (λ (z : Knows E B). PlaceOk b f more r.added r.seat_of r.made j z (record p { drawn = p.drawn + 1 })) same.1
             (subst (λ (z : ℕ). PlaceOk b f more r.added r.seat_of r.made z w (record p { drawn = p.drawn + 1 })) (sym same.0)
@@ -154,7 +156,7 @@ module _ {V E B : Type 0} (stored : V → List E) (base : V → B) (may_add : B 
   draws slots id old next me may idle known is_next s r wide at _ =
       let found : ℕ = get_or s.words 0 0 in let p = may.0 in let first : get_elem? me.0.places 0 ≡ some p =
       ap (λ (z : List (Place E)). get_elem? z 0) may.1 in let ok = r.each_place id 0 me.0 p at first in
-      let is : found ≡ length r.owners = r.tickets in let two = r.words_are in dite (ℕ_discrete found old)
+      let is : found ≡ length r.owners = r.tickets in dite (ℕ_discrete found old)
       (λ hit. let sooner = idle_with stored base may_add b f n s r id me.0 at idle in let behind = r.behind in
       let even : length r.added ≡ length r.owners = omega (arith, sooner, behind, known, hit, is) in
       let home = value_at_home s r even in let x : V = home.0 in (
@@ -196,8 +198,7 @@ module _ {V E B : Type 0} (stored : V → List E) (base : V → B) (may_add : B 
           homes = s.homes;
           views = z.1;
         }) (λ k. (
-          sym (words_again s.words 0 (either (found == old) next found) (omega (arith, two))
-              (ap (λ (z : Bool). either z next found) (ne_eqb found old miss))) k,
+          sym (ap (λ (z : Bool). set s.words 0 (either z next found)) (ne_eqb found old miss) ∙ set-get_or s.words 0 0) k,
           sym (set_again s.views id me.0 at) k,
         )) r,
         record { drawn = λ hit. absurd (miss hit); missed = λ _. refl },

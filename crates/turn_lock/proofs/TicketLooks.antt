@@ -1,10 +1,12 @@
 -- A look at the ticket that is served: the turn history stays.
 use Rattle.std.proofs.Common.{◌≡◌, ℕ, ◌+◌, ◌<◌, ◌≤◌, Bool, List, ◌++◌, length, set, get_or, sym, refl, ap, ◌∙◌, subst}
 use Rattle.std.proofs.Common.{⊎_elim, inl, inr, arith, Option}
+use Rattle.std.proofs.lemmas.List.{set-get_or}
 use mathlib.Core.Option.{some, none, some-injective}
 use lib.ListN.{get_elem?}
 use Rattle.atomic_table.specs.Table.{State, Me, step, keeps, Allows}
 use Rattle.atomic_table.proofs.Lists.{at_set, set_else}
+use Rattle.history.proofs.Totals.{total_set}
 use Rattle.turn_lock.specs.declared.knowledge.Knows.{Knows}
 use Rattle.turn_lock.specs.declared.knowledge.Stage.{Stage}
 use Rattle.turn_lock.specs.declared.knowledge.Stage.TheVariants.{Idle, Inside}
@@ -12,9 +14,8 @@ use Rattle.turn_lock.specs.Histories.{all_added}
 use Rattle.turn_lock.specs.SeatKnowledge.{parts_of, drawn_of, looked}
 use Rattle.turn_lock.specs.Turns.{HasTicket, StageOk, PlaceOk, Turns}
 use Rattle.turn_lock.specs.Steps.{Looked}
-use Rattle.turn_lock.proofs.Totals.{total_set}
 use Rattle.turn_lock.proofs.PlacesApart.{apart_set}
-use Rattle.turn_lock.proofs.Histories.{idle_not_inside, words_again, place_moves, tickets_below}
+use Rattle.turn_lock.proofs.Histories.{idle_not_inside, place_moves, tickets_below}
 
 module _ {V E B : Type 0} (stored : V → List E) (base : V → B) (may_add : B → ℕ → E → Bool) (b : B) (f : List E) (n : ℕ) where
   -- what a seat that is idle has found served
@@ -88,7 +89,7 @@ module _ {V E B : Type 0} (stored : V → List E) (base : V → B) (may_add : B 
   pub looks : (slots id : ℕ) (me : Me (Option V) (Knows E B)) → me.0.stage ≡ Idle
       → Allows (Turns stored base may_add b f n) slots id me 1 (λ x. x) (Looked (step slots 1 0 0 none) me)
   looks slots id me idle s r wide at _ =
-      let found : ℕ = get_or s.words 1 0 in let is : found ≡ length r.added = r.served in let two = r.words_are in
+      let found : ℕ = get_or s.words 1 0 in let is : found ≡ length r.added = r.served in
       let below = tickets_below stored base may_add b f n s r in let behind = r.behind in (
         looked me.0 found,
         keeps,
@@ -97,7 +98,7 @@ module _ {V E B : Type 0} (stored : V → List E) (base : V → B) (may_add : B 
           words = z;
           homes = s.homes;
           views = set s.views id (looked me.0 found);
-        }) (sym (words_again s.words 1 found (omega (arith, two)) refl))
+        }) (sym (set-get_or s.words 1 0))
             (after_look s r id me.0 found at idle (let g : found ≤ length r.added = omega (arith, is) in g)),
         (refl, omega (arith, is, below, behind)),
       )

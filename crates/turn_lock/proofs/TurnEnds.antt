@@ -3,11 +3,14 @@ use Rattle.std.proofs.Common.{◌≡◌, ℕ, ◌+◌, ◌<◌, ◌≤◌, ◌�
 use Rattle.std.proofs.Common.{⊎_elim}
 use Rattle.std.proofs.Common.{inl, eq-or-lt_of_le, arith, append_assoc, length-append, length-set, get_or-set_same}
 use Rattle.std.proofs.Common.{get_or-set_other, Option, Some, unwrap_or}
+use Rattle.std.proofs.lemmas.List.{take-append-le}
 use Rattle.std.proofs.Math.Seq.{take-length}
 use mathlib.Core.Option.{some, none}
 use lib.ListN.{get_elem?}
 use Rattle.atomic_table.specs.Table.{State, Me, step, gives, rest, stepped, Allows}
 use Rattle.atomic_table.proofs.Lists.{at_set}
+use Rattle.history.proofs.Lists.{at_below, at_more, only_item}
+use Rattle.history.proofs.Totals.{total_set}
 use Rattle.turn_lock.specs.declared.knowledge.Knows.{Knows}
 use Rattle.turn_lock.specs.declared.knowledge.Place.{Place}
 use Rattle.turn_lock.specs.declared.knowledge.Stage.{Stage}
@@ -16,8 +19,7 @@ use Rattle.turn_lock.specs.Histories.{all_added, IsTurn, Adds}
 use Rattle.turn_lock.specs.SeatKnowledge.{parts_of, drawn_of, all_drawn, with_last, left}
 use Rattle.turn_lock.specs.Turns.{StageOk, PlaceOk, Turns}
 use Rattle.turn_lock.specs.Steps.{Left}
-use Rattle.turn_lock.proofs.Totals.{total_set, at_below, at_more, only_item}
-use Rattle.turn_lock.proofs.Lists.{added_more, take_more}
+use Rattle.turn_lock.proofs.Lists.{added_more}
 use Rattle.turn_lock.proofs.PlacesApart.{apart_one, apart_set}
 use Rattle.turn_lock.proofs.Histories.{set_only, two_same}
 use Rattle.turn_lock.proofs.TicketLooks.{inside_with}
@@ -37,7 +39,7 @@ module _ {E B : Type 0} {b : B} {f : List E} {owners : List ℕ} {added : List (
     few = ok.few;
     since = ok.since;
     ended = let old = ok.ended in omega (arith, old, long);
-    last_is = ok.last_is ∙ ap (λ (z : List (List E)). f ++ all_added z) (sym (take_more ok.since added entries ok.ended));
+    last_is = ok.last_is ∙ ap (λ (z : List (List E)). f ++ all_added z) (sym (take-append-le ok.since added (entries ∷ []) ok.ended));
     latest = ok.latest;
     others = λ i from below mine. ⊎_elim
         (λ last. other
@@ -106,7 +108,7 @@ module _ {V E B : Type 0} (stored : V → List E) (base : V → B) (may_add : B 
       ap (λ (z : List (Place E)). get_elem? z 0) one in let ok = r.each_place id 0 v p at there in
       let places : w.places ≡ p' ∷ [] = ap (with_last (stored x)) one in let mine =
       inside_with stored base may_add b f n s r id v at inside in
-      let same : mine.0.0 ≡ p = only_item v.places mine.0.0 p 0 mine.0.1 there in
+      let same : mine.0.0 ≡ p = (only_item v.places mine.0.0 p 0 mine.0.1 there).1 in
       let served : v.ticket ≡ length r.added = mine.1 in
       let whose : get_elem? r.owners (length r.added) ≡ some p.number =
       subst (λ (z : ℕ). get_elem? r.owners z ≡ some p.number) served
@@ -143,8 +145,8 @@ module _ {V E B : Type 0} (stored : V → List E) (base : V → B) (may_add : B 
             (subst (λ (z : ℕ). IsTurn (may_add b) z entries) who turn))
             (at_more r.added entries es i turns);
         each_place = λ j k u q to here. ⊎_elim
-            (λ same_seat. let is_q = only_item w.places p' q k places
-            (subst (λ (z : Knows E B). get_elem? z.places k ≡ some q) (sym same_seat.1) here) in
+            (λ same_seat. let is_q = (only_item w.places p' q k places
+            (subst (λ (z : Knows E B). get_elem? z.places k ≡ some q) (sym same_seat.1) here)).1 in
             subst (λ (z : Place E). PlaceOk b f r.owners more r.seat_of r.made j u z) is_q
             (subst (λ (z : Knows E B). PlaceOk b f r.owners more r.seat_of r.made j z p') same_seat.1
             (subst (λ (z : ℕ). PlaceOk b f r.owners more r.seat_of r.made z w p') (sym same_seat.0)

@@ -1,7 +1,6 @@
 -- The turn history, in a lock's own words: tickets, turns that have ended, and what each seat left.
 use Rattle.std.specs.Prelude.{◌≡◌, ◌⊎◌, ℕ, suc, ◌+◌, ◌<◌, ◌≤◌, ◌^◌, Bool, List, [], ◌∷◌, ◌++◌}
-use Rattle.std.specs.Prelude.{length}
-use Rattle.std.specs.Prelude.{take, slice_index, Option, Some}
+use Rattle.std.specs.Prelude.{length, take, slice_index, sum_by, Option, Some}
 use mathlib.Core.Option.{some, none}
 use mathlib.Core.Option as maybe
 use lib.ListN.{get_elem?}
@@ -10,7 +9,7 @@ use Rattle.turn_lock.specs.declared.knowledge.Knows.{Knows}
 use Rattle.turn_lock.specs.declared.knowledge.Place.{Place}
 use Rattle.turn_lock.specs.declared.knowledge.Stage.TheVariants.{Inside}
 use Rattle.turn_lock.specs.Histories.{times, all_added, IsTurn, GoesOn}
-use Rattle.turn_lock.specs.SeatKnowledge.{drawn_of, total}
+use Rattle.turn_lock.specs.SeatKnowledge.{drawn_of}
 
 -- A seat that left this list the last time: the list has what the turns added up to the seat's
 -- latest one that has ended, and the history continues it by what other seats added
@@ -63,7 +62,7 @@ module _ {V E B : Type 0} (stored : V → List E) (base : V → B) (may_add : B 
     pub few : length owners ≤ 2 ^ 37
     -- each ticket belongs to one of the seats, which together have them all, and each has few
     pub owned : (i number : ℕ) → get_elem? owners i ≡ some number → number < n
-    pub sum : total drawn_of table.views ≡ length owners
+    pub sum : sum_by drawn_of table.views ≡ length owners
     -- each ticket has one seat: a number is at one place of one seat of the table. A seat of the
     -- table that was joined with others has a place for each seat of the lock that was joined into
     -- it

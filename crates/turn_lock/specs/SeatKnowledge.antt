@@ -33,11 +33,6 @@ module _ {E B : Type 0} where
   abbrev pub drawn_of : Knows E B → ℕ
   drawn_of v = all_drawn v.places
 
-  -- a number that each seat of the table has, added up
-  abbrev pub total : (Knows E B → ℕ) → List (Knows E B) → ℕ
-  total f [] = 0
-  total f (v ∷ views) = f v + total f views
-
   -- an idle seat of this number
   abbrev pub seated : Option B → List E → ℕ → ℕ → ℕ → Knows E B
   seated base first number spare next = record {

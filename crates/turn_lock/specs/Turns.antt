@@ -1,7 +1,7 @@
 -- The turn history: it holds between any two steps of a lock's table. Word 0 is the number of
 -- tickets drawn, word 1 the ticket that is served, slot 0 has the value.
 use Rattle.std.specs.Prelude.{◌≡◌, ◌⊎◌, ℕ, suc, ◌+◌, ◌<◌, ◌≤◌, ◌^◌, Bool, List, [], ◌∷◌, ◌++◌}
-use Rattle.std.specs.Prelude.{length, take, slice_index, Option, Some}
+use Rattle.std.specs.Prelude.{length, take, slice_index, sum_by, Option, Some}
 use mathlib.Core.Option.{some, none}
 use mathlib.Core.Option as maybe
 use lib.ListN.{get_elem?}
@@ -11,7 +11,7 @@ use Rattle.turn_lock.specs.declared.knowledge.Place.{Place}
 use Rattle.turn_lock.specs.declared.knowledge.Stage.{Stage}
 use Rattle.turn_lock.specs.declared.knowledge.Stage.TheVariants.{Idle, Inside}
 use Rattle.turn_lock.specs.Histories.{times, all_added, IsTurn}
-use Rattle.turn_lock.specs.SeatKnowledge.{parts_of, drawn_of, total}
+use Rattle.turn_lock.specs.SeatKnowledge.{parts_of, drawn_of}
 
 module _ {E B : Type 0} (owners : List ℕ) (added : List (List E)) (history : List E)
     (v : Knows E B) where
@@ -74,8 +74,8 @@ module _ {V E B : Type 0} (stored : V → List E) (base : V → B) (may_add : B 
     pub behind : length added ≤ length owners
     pub few : n ≤ 32
     pub within : made ≤ n
-    pub shares : total parts_of s.views ≡ n
-    pub sum : total drawn_of s.views ≡ length owners
+    pub shares : sum_by parts_of s.views ≡ n
+    pub sum : sum_by drawn_of s.views ≡ length owners
     pub owned : (i number : ℕ) → get_elem? owners i ≡ some number → number < made
     pub each_turn : (i number : ℕ) (entries : List E) → get_elem? owners i ≡ some number →
         get_elem? added i ≡ some entries → IsTurn (may_add b) number entries

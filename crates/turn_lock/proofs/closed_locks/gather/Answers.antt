@@ -3,7 +3,7 @@ use Rattle.std.specs.List.{AllByRecursion}
 use lib.ListN.{get_elem?}
 use Rattle.turn_lock.specs.Seats.{IsIdleAt, place_of}
 use Rattle.turn_lock.proofs.Calls.{idle_of, places_with}
-use Rattle.turn_lock.proofs.SeatLists.{all_but}
+use Rattle.history.proofs.Lists.{all_but}
 use Rattle.turn_lock.proofs.SeatJoins.{joins}
 use Rattle.turn_lock.proofs.closed_locks.gather.Goals as goal
 
