@@ -1,32 +1,27 @@
 -- Each step keeps the dealer's rule.
 use Rattle.std.proofs.Common.{◌≡◌, ℕ, ◌+◌, ◌-◌, ◌*◌, ◌%◌, ◌<◌, ◌≤◌, ◌≢◌, ◌^◌, List, [], ◌∷◌, ◌++◌, length, set, get_or, sym}
 use Rattle.std.proofs.Common.{refl, ap, ◌∙◌, subst, subst₂, ⊎_elim, arith, length-append, length-set, get_or-set_same}
-use Rattle.std.proofs.Common.{get_or-set_other, mod-eq_of_lt}
+use Rattle.std.proofs.Common.{get_or-set_other, mod-eq_of_lt, sum_by}
+use Rattle.std.proofs.lemmas.List.{nil_from_length, set-get_or}
+use Rattle.std.proofs.lemmas.List.Sums.{sum_by_push}
 use native.Mathlib.Nat.{add-mod_right}
-use mathlib.Core.Option.{some, none, some-injective, some-ne-none}
+use mathlib.Core.Option.{some, none}
 use lib.ListN.{get_elem?}
 use Rattle.atomic_table.specs.Table.{State, Me, step, keeps, Allows, Splits, Joins, Final, Seen}
 use Rattle.atomic_table.proofs.Lists.{at_set, set_else}
+use Rattle.history.proofs.Below.{below_more}
+use Rattle.history.proofs.Lists.{at_more, item_or}
+use Rattle.history.proofs.Totals.{total_set, total_above, total_both, total_times, total_one}
 use Rattle.ticket_dealer.specs.declared.knowledge.Hand.{Hand}
 use Rattle.ticket_dealer.specs.Tickets.{times, once_below, AllBelow, Rises}
-use Rattle.ticket_dealer.specs.Hands.{total, without_feeder, feeder_of, without_other, other_of, drew, ended, saw, joined}
+use Rattle.ticket_dealer.specs.Hands.{without_feeder, feeder_of, without_other, other_of, drew, ended, saw, joined}
 use Rattle.ticket_dealer.specs.Hands.{spent}
 use Rattle.ticket_dealer.specs.Dealt.{HandOk, Dealt}
 use Rattle.ticket_dealer.specs.Steps.{Drew, Ended, Saw}
-use Rattle.ticket_dealer.proofs.Totals.{total_set, total_more, total_above, total_both, total_times, total_one, at_more}
-use Rattle.ticket_dealer.proofs.Totals.{words_again}
-use Rattle.ticket_dealer.proofs.Lists.{times_join, once_more, below_up, below_join, rises_more}
+use Rattle.ticket_dealer.proofs.Lists.{times_join, below_up, below_join, rises_more}
 
 abbrev St : Type 0
 St = State (Unit {0}) Hand
-
-nothing_in : (xs : List ℕ) → length xs ≡ 0 → xs ≡ []
-nothing_in [] none_there = refl
-nothing_in (x ∷ xs) none_there = absurd (omega (arith, none_there))
-
-word_is : (words : List ℕ) (number : ℕ) → get_elem? words 0 ≡ some number → get_or words 0 0 ≡ number
-word_is [] number at = absurd (some-ne-none number (sym at))
-word_is (x ∷ words) number at = some-injective x number at
 
 module _ (feeders : ℕ) where
   -- what held of a seat still holds, when the next ticket has risen and live feeders have ended
@@ -42,9 +37,9 @@ module _ (feeders : ℕ) where
 
   -- few tickets were drawn
   tickets_few : (s : St) (r : Dealt feeders s) → get_or s.words 0 0 ≤ 17 * 2 ^ 32
-  tickets_few s r = let few = total_times (λ v. length v.drawn) (λ v. v.shares) s.views (λ j v at. (r.each_hand j v at).few) in
+  tickets_few s r = let few = total_times (λ v. length v.drawn) (λ v. v.shares) (2 ^ 32) s.views (λ j v at. (r.each_hand j v at).few) in
       let sum = r.sum in let shares = r.shares in let at_most = r.some_feeders in
-      let t : ℕ = total (λ v. length v.drawn) s.views in let n : ℕ = total (λ v. v.shares) s.views in
+      let t : ℕ = sum_by (λ v. length v.drawn) s.views in let n : ℕ = sum_by (λ v. v.shares) s.views in
       let few' : t ≤ n * 2 ^ 32 = few in let sum' : t ≡ get_or s.words 0 0 = sum in let shares' : n ≡ feeders + 9 = shares in
       omega (arith, few', sum', shares', at_most)
 
@@ -63,10 +58,10 @@ module _ (feeders : ℕ) where
         some_feeders = r.some_feeders;
         shares = let sums = total_set (λ v. v.shares) s.views id v w at in let old = r.shares in omega (arith, sums, old);
         once = λ ticket. let sums = total_set (λ v. times ticket v.drawn) s.views id v w at in let old = r.once ticket in
-            let joined_is = times_join ticket v.drawn (next ∷ []) in let one_more = once_more next ticket in
-            let a : total (λ v. times ticket v.drawn) s.views ≡ once_below next ticket =
+            let joined_is = times_join ticket v.drawn (next ∷ []) in let one_more = below_more next ticket in
+            let a : sum_by (λ v. times ticket v.drawn) s.views ≡ once_below next ticket =
             old ∙ ap (λ (z : ℕ). once_below z ticket) (sym is) in
-            let t : ℕ = total (λ v. times ticket v.drawn) (set s.views id w) in let b : t ≡ once_below (next + 1) ticket =
+            let t : ℕ = sum_by (λ v. times ticket v.drawn) (set s.views id w) in let b : t ≡ once_below (next + 1) ticket =
             omega (arith, sums, joined_is, a, one_more) in b ∙ ap (λ (z : ℕ). once_below z ticket) (sym first);
         sum = let sums = total_set (λ v. length v.drawn) s.views id v w at in let old = r.sum in
             omega (arith, sums, old, long, first, is);
@@ -119,8 +114,8 @@ module _ (feeders : ℕ) where
         some_feeders = r.some_feeders;
         shares = let sums = total_set (λ v. v.shares) s.views id v w at in let old = r.shares in omega (arith, sums, old);
         once = λ ticket. let sums = total_set (λ v. times ticket v.drawn) s.views id v w at in let t : ℕ =
-            total (λ v. times ticket v.drawn) (set s.views id w) in
-            let same : t ≡ total (λ v. times ticket v.drawn) s.views = omega (arith, sums) in
+            sum_by (λ v. times ticket v.drawn) (set s.views id w) in
+            let same : t ≡ sum_by (λ v. times ticket v.drawn) s.views = omega (arith, sums) in
             same ∙ r.once ticket ∙ ap (λ (z : ℕ). once_below z ticket) (sym first);
         sum = let sums = total_set (λ v. length v.drawn) s.views id v w at in let old = r.sum in
             omega (arith, sums, old, first);
@@ -141,7 +136,7 @@ module _ (feeders : ℕ) where
       → Allows (Dealt feeders) slots id me 1 (λ x. (x + (2 ^ 64 - 1)) % 2 ^ 64) (Ended (step slots 1 1 0 none) me)
   ends slots id me owing s r wide at small = let found : ℕ = get_or s.words 1 0 in let live = r.live in let above =
       total_above (λ v. v.owes) s.views id me.0 at in
-      let t : ℕ = total (λ v. v.owes) s.views in let live' : t ≡ found = live in let above' : me.0.owes ≤ t = above in
+      let t : ℕ = sum_by (λ v. v.owes) s.views in let live' : t ≡ found = live in let above' : me.0.owes ≤ t = above in
       let some : 0 < found = omega (arith, live', above', owing) in
       let goes : found + (2 ^ 64 - 1) ≡ (found - 1) + 2 ^ 64 = omega (arith, some) in let fits : found - 1 < 2 ^ 64 =
       omega (arith, small) in
@@ -173,8 +168,8 @@ module _ (feeders : ℕ) where
         some_feeders = r.some_feeders;
         shares = let sums = total_set (λ v. v.shares) s.views id v w at in let old = r.shares in omega (arith, sums, old);
         once = λ ticket. let sums = total_set (λ v. times ticket v.drawn) s.views id v w at in let t : ℕ =
-            total (λ v. times ticket v.drawn) (set s.views id w) in
-            let same : t ≡ total (λ v. times ticket v.drawn) s.views = omega (arith, sums) in same ∙ r.once ticket;
+            sum_by (λ v. times ticket v.drawn) (set s.views id w) in
+            let same : t ≡ sum_by (λ v. times ticket v.drawn) s.views = omega (arith, sums) in same ∙ r.once ticket;
         sum = let sums = total_set (λ v. length v.drawn) s.views id v w at in let old = r.sum in omega (arith, sums, old);
         live = let sums = total_set (λ v. v.owes) s.views id v w at in let old = r.live in omega (arith, sums, old);
         calls = let sums = total_set (λ v. v.ended) s.views id v w at in let old = r.calls in omega (arith, sums, old);
@@ -195,14 +190,14 @@ module _ (feeders : ℕ) where
   pub looks : (slots id : ℕ) (me : Me (Unit {0}) Hand)
       → Allows (Dealt feeders) slots id me 1 (λ x. x) (Saw (step slots 1 0 0 none) me)
   looks slots id me s r wide at _ = let found : ℕ = get_or s.words 1 0 in let mine = r.each_hand id me.0 at in let t : ℕ =
-      total (λ v. v.owes) s.views in let e : ℕ = total (λ v. v.ended) s.views in
+      sum_by (λ v. v.owes) s.views in let e : ℕ = sum_by (λ v. v.ended) s.views in
       let live : t ≡ found = r.live in let owing : me.0.owes ≤ t = total_above (λ v. v.owes) s.views id me.0 at in
       let ended_by : me.0.ended ≤ e = total_above (λ v. v.ended) s.views id me.0 at in
       let calls : e + found ≡ feeders = r.calls in (
         saw me.0 found,
         keeps,
         tt,
-        after_look s r id me.0 (set s.words 1 found) at (words_again s.words r.words_are),
+        after_look s r id me.0 (set s.words 1 found) at (set-get_or s.words 1 0),
         record {
           seen = refl;
           owing = omega (arith, live, owing);
@@ -218,8 +213,8 @@ module _ (feeders : ℕ) where
       (w_feeders : w.feeders ≡ v.feeders) (u_feeders : u.feeders ≡ v.feeders) where
     after_split : Splits (Dealt feeders) id v w u
     after_split s r at = let views : List Hand = set s.views id w in let mine = r.each_hand id v at in
-        let sums : (f : Hand → ℕ) → f w + f u ≡ f v → total f (views ++ u ∷ []) ≡ total f s.views
-        = λ f is. let a = total_set f s.views id v w at in let c = total_more f views u in omega (arith, a, c, is) in
+        let sums : (f : Hand → ℕ) → f w + f u ≡ f v → sum_by f (views ++ u ∷ []) ≡ sum_by f s.views
+        = λ f is. let a = total_set f s.views id v w at in let c = sum_by_push f views u in omega (arith, a, c, is) in
         let none_in : (f : List ℕ → ℕ) → f [] ≡ 0 → f w.drawn + f u.drawn ≡ f v.drawn
         = λ f nothing. let a = ap f w_drawn in let c = ap f u_drawn in let d = ap f none_drawn in
         omega (arith, a, c, d, nothing) in
@@ -266,7 +261,7 @@ module _ (feeders : ℕ) where
       let both = joined v w in let mid : List Hand = set s.views id both in let old : get_elem? s.views other ≡ some w =
       sym (set_else s.views id other both apart) ∙ to in
       let mine = r.each_hand id v at in let yours = r.each_hand other w old in
-      let sums : (f : Hand → ℕ) → f both ≡ f v + f w → f spent ≡ 0 → total f (set mid other spent) ≡ total f s.views
+      let sums : (f : Hand → ℕ) → f both ≡ f v + f w → f spent ≡ 0 → sum_by f (set mid other spent) ≡ sum_by f s.views
       = λ f is nothing. let a = total_set f s.views id v both at in let c = total_set f mid other w spent to in
       omega (arith, a, c, is, nothing) in record {
         words_are = r.words_are;
@@ -295,7 +290,7 @@ module _ (feeders : ℕ) where
               rises = λ one.
                   let none_left : w.shares ≡ 0 = omega (arith, one, some_shares) in
                   let c = yours.few in
-                  let empty = nothing_in w.drawn (omega (arith, none_left, c)) in
+                  let empty = nil_from_length w.drawn (omega (arith, none_left, c)) in
                   subst (λ (z : List ℕ). Rises 0 (z ++ v.drawn)) (sym empty) (mine.rises (omega (arith, one, none_left)));
               later = λ _. mine.later some_shares;
               knows = λ _. mine.knows some_shares;
@@ -317,19 +312,19 @@ module _ (feeders : ℕ) where
     -- then no other seat has a ticket
     others_none : (j : ℕ) (u : Hand) → j ≢ id → get_elem? last.views j ≡ some u → length u.drawn ≡ 0
     others_none j u other to =
-        let n : ℕ = total (λ v. v.shares) last.views in
+        let n : ℕ = sum_by (λ v. v.shares) last.views in
         let both : u.shares + v.shares ≤ n = total_both (λ v. v.shares) last.views j id u v other to final.1.1 in
         let shares : n ≡ feeders + 9 = rule.shares in
         let few = (rule.each_hand j u to).few in
         omega (arith, both, shares, few, all)
 
     number_is : get_or last.words 0 0 ≡ number
-    number_is = word_is last.words number (subst (λ (z : List ℕ). get_elem? z 0 ≡ some number) (sym final.2) here)
+    number_is = item_or last.words 0 number 0 (subst (λ (z : List ℕ). get_elem? z 0 ≡ some number) (sym final.2) here)
 
     pub closes : (ticket : ℕ) → times ticket v.drawn ≡ once_below number ticket
     closes ticket =
         sym (total_one (λ v. times ticket v.drawn) last.views id v final.1.1
-        (λ j u other to. ap (times ticket) (nothing_in u.drawn (others_none j u other to))))
+        (λ j u other to. ap (times ticket) (nil_from_length u.drawn (others_none j u other to))))
         ∙ rule.once ticket ∙ ap (λ (z : ℕ). once_below z ticket) number_is
 
     pub closes_sum : length v.drawn ≡ number

@@ -1,4 +1,3 @@
-mod Totals
 mod Lists
 mod Asks
 mod Dealings

@@ -1,44 +1,14 @@
 -- How often a ticket was drawn, and which numbers are above which.
-use Rattle.std.proofs.Common.{◌≡◌, ℕ, ◌+◌, ◌<◌, ◌≤◌, eq-eqb, ne_eqb, Bool, true, false, cond, List, [], ◌∷◌, ◌++◌, length}
-use Rattle.std.proofs.Common.{sum_by, count_by, nat_lt, ◌==◌, if◌then◌else◌, sym, refl, ap, ap₂, ◌∙◌, append_assoc, append-nil}
+use Rattle.std.proofs.Common.{◌≡◌, ℕ, ◌+◌, ◌≤◌, cond, List, [], ◌∷◌, ◌++◌, length}
+use Rattle.std.proofs.Common.{sum_by, count_by, ◌==◌, if◌then◌else◌, sym, refl, ap, ap₂, ◌∙◌, append_assoc, append-nil}
 use Rattle.std.proofs.Common.{length-append, arith}
-use Rattle.std.specs.List.{AllByRecursion}
 use Rattle.std.proofs.lemmas.List.Sums.{sum_by-cons}
-use Rattle.std.proofs.lemmas.Bool.{lt-ltb, ltb-true}
-use mathlib.Core.Logic.{dite}
-use native.Mathlib.Decide.{ℕ_discrete, dec_le}
-use Rattle.ticket_dealer.specs.Tickets.{times, once_below, AllBelow, Rises}
+use Rattle.ticket_dealer.specs.Tickets.{times, AllBelow, Rises}
 use Rattle.ticket_dealer.specs.Seats.{SeatValue, all_drawn, drawn_times}
 
 pub times_join : (ticket : ℕ) (xs ys : List ℕ) → times ticket (xs ++ ys) ≡ times ticket xs + times ticket ys
 times_join ticket [] ys = omega arith
 times_join ticket (x ∷ xs) ys = let rest = times_join ticket xs ys in omega (arith, rest)
-
-not_true : (b : Bool) → ¬ (b ≡ true) → b ≡ false
-not_true true never = absurd (never refl)
-not_true false never = refl
-
-pub below_yes : (ticket number : ℕ) → ticket < number → once_below number ticket ≡ 1
-below_yes ticket number below = ap (λ (b : Bool). if b then 1 else 0) (lt-ltb ticket number below)
-
-below_no : (ticket number : ℕ) → number ≤ ticket → once_below number ticket ≡ 0
-below_no ticket number above =
-    ap (λ (b : Bool). if b then 1 else 0)
-    (not_true (nat_lt ticket number) (λ yes. let below = ltb-true ticket number yes in omega (arith, below, above)))
-
--- the next ticket is drawn
-pub once_more : (number ticket : ℕ) → once_below (number + 1) ticket ≡ once_below number ticket + times ticket (number ∷ [])
-once_more number ticket = dite (ℕ_discrete number ticket)
-    (λ same. let a = below_yes ticket (number + 1) (omega (arith, same)) in
-    let b = below_no ticket number (omega (arith, same)) in
-    let c : times ticket (number ∷ []) ≡ 1 = ap (λ (z : Bool). (if z then 1 else 0) + 0) (eq-eqb number ticket same) in
-    omega (arith, a, b, c))
-    (λ other. let c : times ticket (number ∷ []) ≡ 0 = ap (λ (z : Bool). (if z then 1 else 0) + 0) (ne_eqb number ticket other)
-    in dite (dec_le number ticket)
-    (λ above. let a = below_no ticket (number + 1) (omega (arith, above, other)) in let b = below_no ticket number above in
-    omega (arith, a, b, c))
-    (λ not_above. let a = below_yes ticket (number + 1) (omega (arith, not_above)) in
-    let b = below_yes ticket number (omega (arith, not_above)) in omega (arith, a, b, c)))
 
 pub below_up : (less more : ℕ) (xs : List ℕ) → less ≤ more → AllBelow less xs → AllBelow more xs
 below_up less more [] le all = tt
@@ -86,16 +56,3 @@ pub drawn_with : (seats : List SeatValue) (x : SeatValue) (drawn more : List ℕ
     → all_drawn seats ++ (drawn ++ more) ≡ all_drawn (seats ++ x ∷ []) ++ more
 drawn_with seats x drawn more is = ap (λ (z : List ℕ). all_drawn seats ++ (z ++ more)) is
     ∙ sym (append_assoc (all_drawn seats) x.drawn more) ∙ ap (λ (z : List ℕ). z ++ more) (sym (drawn_more seats x))
-
-module _ {A : Type 0} where
-  -- what holds of each item except the last, and of the last
-  pub all_but : (P : A → Type 0) (xs : List A) (x : A) → AllByRecursion P (xs ++ x ∷ []) → AllByRecursion P xs × P x
-  all_but P [] x all = (tt, all.0)
-  all_but P (y ∷ xs) x all = let rest = all_but P xs x all.1 in ((all.0, rest.0), rest.1)
-
-  pub all_and : (P : A → Type 0) (xs : List A) (x : A) → AllByRecursion P xs → P x → AllByRecursion P (xs ++ x ∷ [])
-  all_and P [] x all last = (last, tt)
-  all_and P (y ∷ xs) x all last = (all.0, all_and P xs x all.1 last)
-
-  pub length_more : (xs : List A) (x : A) → length (xs ++ x ∷ []) ≡ length xs + 1
-  length_more xs x = length-append xs (x ∷ []) ∙ (omega arith)

@@ -1,10 +1,9 @@
 -- What a dealer's table keeps, in its own words: who drew which ticket, and how many feeders go on.
-use Rattle.std.specs.Prelude.{◌≡◌, ◌≢◌, ℕ, ◌+◌, ◌<◌, List, length, slice_index}
+use Rattle.std.specs.Prelude.{◌≡◌, ◌≢◌, ℕ, ◌+◌, ◌<◌, List, length, slice_index, sum_by}
 use mathlib.Core.Option.{some}
 use lib.ListN.{get_elem?}
 use Rattle.atomic_table.specs.Table.{State}
 use Rattle.ticket_dealer.specs.declared.knowledge.Hand.{Hand}
-use Rattle.ticket_dealer.specs.Hands.{total}
 use Rattle.ticket_dealer.specs.Tickets.{times, AllBelow, Rises}
 
 -- the ticket was drawn once, by one seat
@@ -26,11 +25,11 @@ pub record IsDealing (feeders : ℕ) (table : State (Unit {0}) Hand) : Type 0 wh
       (j : ℕ) (v : Hand)
       → get_elem? table.views j ≡ some v
       → AllBelow (slice_index table.words 0) v.drawn
-  pub number : total (λ v. length v.drawn) table.views ≡ slice_index table.words 0
+  pub number : sum_by (λ v. length v.drawn) table.views ≡ slice_index table.words 0
   -- the tickets of a seat that wasn't joined rise
   pub rising :
       (j : ℕ) (v : Hand) → get_elem? table.views j ≡ some v → v.shares ≡ 1 → Rises 0 v.drawn
   -- each of the dealer's seats, one for each feeder and nine more, counts once
-  pub seats : total (λ v. v.shares) table.views ≡ feeders + 9
+  pub seats : sum_by (λ v. v.shares) table.views ≡ feeders + 9
   -- word 1 and all calls of `done` are the number of feeders
-  pub live : slice_index table.words 1 + total (λ v. v.ended) table.views ≡ feeders
+  pub live : slice_index table.words 1 + sum_by (λ v. v.ended) table.views ≡ feeders

@@ -1,11 +1,6 @@
 -- What a seat of the table knows at the start and after each step.
-use Rattle.std.specs.Prelude.{ℕ, ◌+◌, ◌-◌, List, [], ◌∷◌, ◌++◌}
+use Rattle.std.specs.Prelude.{ℕ, ◌+◌, ◌-◌, [], ◌∷◌, ◌++◌}
 use Rattle.ticket_dealer.specs.declared.knowledge.Hand.{Hand}
-
--- a number that each seat of the table has, added up
-abbrev pub total : (Hand → ℕ) → List Hand → ℕ
-total f [] = 0
-total f (v ∷ views) = f v + total f views
 
 -- the first seat while it still makes others: it owes their calls of `done`, and represents them
 abbrev pub unmade : ℕ → ℕ → ℕ → Hand

@@ -1,8 +1,9 @@
-use Rattle.std.proofs.Common.{ap, ◌∙◌, ◌++◌, [], sym, subst, append-nil, length, arith}
+use Rattle.std.proofs.Common.{ap, ◌∙◌, ◌++◌, [], sym, subst, append-nil, length-append, length, ◌∷◌, arith}
 use Rattle.std.specs.List.{AllByRecursion}
+use Rattle.history.proofs.Lists.{all_and, all_but}
 use Rattle.ticket_dealer.specs.Seats.{IsAt, RisesIn, all_drawn}
 use Rattle.ticket_dealer.specs.Tickets.{Rises}
-use Rattle.ticket_dealer.proofs.Lists.{all_but, all_and, drawn_with, length_more}
+use Rattle.ticket_dealer.proofs.Lists.{drawn_with}
 use Rattle.ticket_dealer.proofs.Asks.{joins}
 use Rattle.ticket_dealer.proofs.closed_dealers.gather.Goals as goal
 
@@ -12,7 +13,7 @@ loop-other-init c =
     let items = c.in-Some.ensures.items in
     let own = all_but (IsAt c.args.shared.now.table_id) seats x
     (subst (AllByRecursion (IsAt c.args.shared.now.table_id)) items c.requires.own) in
-    let long = ap length items in let more = length_more seats x in let one = ok.one in let drawn =
+    let long = ap length items in let more = length-append seats (x ∷ []) in let one = ok.one in let drawn =
     ap (λ s. s.drawn) c.last.view_is in record {
       table = ap (λ s. s.dealer) c.last.view_is ∙ own.1;
       some = omega (arith, one);
@@ -41,7 +42,7 @@ loop-other-preserved c =
     c.in-Some-pop.other in let items = c.in-Some-pop.ensures.items in let inv = c.loop-other.invariant in
     let own = all_but (IsAt c.args.shared.now.table_id) seats x
     (subst (AllByRecursion (IsAt c.args.shared.now.table_id)) items inv.own) in
-    let long = ap length items in let more = length_more seats x in let one = ok.one in let drawn =
+    let long = ap length items in let more = length-append seats (x ∷ []) in let one = ok.one in let drawn =
     ap (λ s. s.drawn) c.other.view_is in let old = inv.shares in
     let joined_is = c.join_seat.ensures.2 in let shares = ap (λ m. m.0.shares) joined_is in record {
       table = c.join_seat.ensures.0 ∙ inv.table;
