@@ -5,6 +5,7 @@ use Rattle.std.specs.List.{AllByRecursion}
 use Rattle.std.proofs.lemmas.List.Sums.{sum_by-cons}
 use mathlib.Core.Logic.{dite}
 use native.Mathlib.Decide.{ℕ_discrete}
+use Rattle.history.proofs.Below.{below_yes}
 use Rattle.work_queue.specs.Histories.{History, IsNamed, Place, own, works_of}
 use Rattle.work_queue.specs.Logs.{HasDone, log, named}
 use Rattle.work_queue.specs.Passes.{HasPlaces, IsAmong, IsFound, IsHistory, PassValue, WasFetched, WasHanded, part_of, parts_of}
@@ -12,7 +13,6 @@ use Rattle.work_queue.specs.Steps.{Tells}
 use Rattle.work_queue.specs.declared.knowledge.Log.{Log}
 use Rattle.work_queue.specs.declared.knowledge.Part.{Part}
 use Rattle.work_queue.specs.declared.works.Work.{Work}
-use Rattle.work_queue.proofs.Places.{below_yes}
 
 -- ---- passes and their parts
 

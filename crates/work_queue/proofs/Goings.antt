@@ -1,8 +1,7 @@
 -- The rule of a queue, as its owners see it.
-use Rattle.std.proofs.Common.{◌≡◌, ◌<◌, ◌⊎◌, inl, inr, List, [], length, sym, ◌∙◌}
+use Rattle.std.proofs.Common.{◌≡◌, ◌⊎◌, inl, inr, List, [], sym, ◌∙◌}
 use Rattle.work_queue.specs.Happened.{Happened, OneHasAll}
-use Rattle.work_queue.specs.Logs.{named}
-use Rattle.work_queue.specs.QueueHistory.{GoesOn, Knows, TookOut}
+use Rattle.work_queue.specs.QueueHistory.{GoesOn, TookOut}
 use Rattle.work_queue.specs.declared.knowledge.Log.{Log}
 use Rattle.work_queue.specs.declared.works.Work.{Work}
 

@@ -1,4 +1,3 @@
-mod Totals
 mod Places
 mod Moves
 mod Splits

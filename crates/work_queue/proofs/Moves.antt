@@ -2,12 +2,15 @@
 use Rattle.std.proofs.Common.{◌≡◌, ◌≢◌, ℕ, ◌+◌, ◌<◌, ◌≤◌, ◌⊎◌, inl, inr, List, [], ◌∷◌, ◌++◌, length, set, sum_by, sym, refl}
 use Rattle.std.proofs.Common.{ap, ◌∙◌, subst, ⊎_elim, append_assoc, arith}
 use Rattle.std.specs.List.{AllByRecursion}
+use Rattle.std.proofs.lemmas.List.{nil_from_length}
 use mathlib.Core.Logic.{dite}
 use mathlib.Core.Option.{some, some-injective}
 use native.Mathlib.Decide.{ℕ_discrete}
 use lib.ListN.{get_elem?}
 use Rattle.crossbeam_queue.specs.Fifo.{Learns, Pops, Pushes}
 use Rattle.crossbeam_queue.proofs.Lists.{at_set, set_here}
+use Rattle.history.proofs.Lists.{all_and, at_below}
+use Rattle.history.proofs.Totals.{total_above, total_both, total_one, total_set}
 use Rattle.work_queue.specs.Happened.{Happened, LogOk, OneHasAll}
 use Rattle.work_queue.specs.Histories.{History, IsNamed, Place, works_of}
 use Rattle.work_queue.specs.Logs.{HasDone, log, named, once_below}
@@ -16,9 +19,8 @@ use Rattle.work_queue.specs.Works.{IsLawfulWork}
 use Rattle.work_queue.specs.declared.knowledge.Log.{Log}
 use Rattle.work_queue.specs.declared.knowledge.Part.{Part}
 use Rattle.work_queue.specs.declared.works.Work.{Work}
-use Rattle.work_queue.proofs.Places.{all_and, below_named, fetched_other, handed_other, named_here, none_in, once_few, own_more}
+use Rattle.work_queue.proofs.Places.{below_named, fetched_other, handed_other, named_here, once_few, own_more}
 use Rattle.work_queue.proofs.Places.{place, works_more}
-use Rattle.work_queue.proofs.Totals.{at_below, total_above, total_both, total_one, total_set}
 
 -- how many passes a view represents, and how many of a name
 abbrev pub parts_in : Log → ℕ
@@ -79,7 +81,7 @@ module _ (items : List Work) (views : List Log) (r : Happened items views) (id :
   pub nothing_known : (count : ℕ) (left : List Work) (handed gone : List Place) (u : Log) → length u.parts ≡ 0
       → LogOk count left handed gone u
   nothing_known count left handed gone u none = record {
-    done = subst (AllByRecursion (HasDone handed gone)) (sym (none_in u.parts none)) tt;
+    done = subst (AllByRecursion (HasDone handed gone)) (sym (nil_from_length u.parts none)) tt;
     knows = λ some_parts. absurd (omega (arith, some_parts, none));
     last = λ some_parts _. absurd (omega (arith, some_parts, none));
   }
@@ -269,6 +271,7 @@ module _ (id : ℕ) (v : Log) (some_parts : 0 < length v.parts) (has : length v.
         done = mine.done;
         once = λ name.
             sym (total_one (names_in name) views id v at
-            (λ j u other to. ap (named name) (none_in u.parts (others_none items views r id v at some_parts has j u other to))))
+            (λ j u other to. ap (named name) (nil_from_length u.parts
+            (others_none items views r id v at some_parts has j u other to))))
             ∙ r.once name ∙ ap (λ (c : ℕ). once_below c name) count_is;
       }

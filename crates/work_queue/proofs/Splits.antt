@@ -6,6 +6,9 @@ use mathlib.Core.Option.{some, some-injective, some-ne-none}
 use lib.ListN.{get_elem?}
 use Rattle.crossbeam_queue.specs.Fifo.{Forks, Merges}
 use Rattle.crossbeam_queue.proofs.Lists.{at_set, at_snoc, set_else}
+use Rattle.history.proofs.Below.{below_more, below_no}
+use Rattle.history.proofs.Lists.{all_append}
+use Rattle.history.proofs.Totals.{total_set}
 use Rattle.work_queue.specs.Happened.{Happened, LogOk}
 use Rattle.work_queue.specs.Histories.{Place}
 use Rattle.work_queue.specs.Logs.{HasDone, first_of, fresh, gathered, grown, log, named, once_below, opening, rest_of, spent}
@@ -13,8 +16,7 @@ use Rattle.work_queue.specs.declared.knowledge.Log.{Log}
 use Rattle.work_queue.specs.declared.knowledge.Part.{Part}
 use Rattle.work_queue.specs.declared.works.Work.{Work}
 use Rattle.work_queue.proofs.Moves.{names_in, no_left, nothing_known, others_none, parts_in}
-use Rattle.work_queue.proofs.Places.{all_append, below_no, named_both, named_up, once_more, own_none}
-use Rattle.work_queue.proofs.Totals.{total_set}
+use Rattle.work_queue.proofs.Places.{named_both, named_up, own_none}
 
 opening_ok : (j : ℕ) (v : Log) → get_elem? (opening ∷ []) j ≡ some v → LogOk 1 [] [] [] v
 opening_ok zero v at = subst (LogOk 1 [] [] []) (some-injective opening v at) (record {
@@ -36,7 +38,7 @@ begins = record {
   closing = inl refl;
   all_parts = refl;
   once = λ name.
-      let more = once_more 0 name in
+      let more = below_more 0 name in
       let none = below_no 0 name (omega arith) in
       omega (arith, more, none);
 }
@@ -99,7 +101,7 @@ grows id v some_parts has none items views r at =
           let pushed = sum_by_push (names_in name) more spent in
           let sums = total_set (names_in name) views id v (grown v) at in
           let both = named_both name v.parts (fresh v.all ∷ []) in
-          let one = once_more r.count name in
+          let one = below_more r.count name in
           let same : named name (fresh v.all ∷ []) ≡ named name (fresh r.count ∷ []) =
           ap (λ (c : ℕ). named name (fresh c ∷ [])) knows in
           let old : sum_by (names_in name) views ≡ once_below r.count name = r.once name in

@@ -1,10 +1,10 @@
 use Rattle.std.proofs.Common.{◌≡◌, ◌++◌, length, length-append, refl, ap, ◌∙◌, subst, arith}
 use Rattle.std.specs.List.{AllByRecursion}
+use Rattle.history.proofs.Lists.{all_but}
 use Rattle.work_queue.specs.Passes.{IsPassAt, PassValue, part_of, parts_of}
 use Rattle.work_queue.specs.PassesInside.{one_of}
 use Rattle.work_queue.specs.declared.knowledge.Log.{Log}
 use Rattle.work_queue.proofs.Counts.{joined, joined_first, one_part}
-use Rattle.work_queue.proofs.Places.{all_but}
 use Rattle.work_queue.proofs.Splits.{merges}
 use Rattle.work_queue.proofs.closed_queues.gather.Goals as goal
 
