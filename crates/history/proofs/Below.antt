@@ -16,10 +16,13 @@ below_no number k above = ap one_if (le-ltb k number above)
 -- one number more
 pub below_more : (number k : ℕ) → one_if (ltb k (number + 1)) ≡ one_if (ltb k number) + (one_if (eqb number k) + 0)
 below_more number k = dite (ℕ_discrete number k)
-    (λ same. omega (arith, below_yes (number + 1) k (omega (arith, same)), below_no number k (omega (arith, same)),
-    ap one_if (eq-eqb number k same)))
-    (λ other. dite (dec_le number k)
-    (λ above. omega (arith, below_no (number + 1) k (omega (arith, above, other)), below_no number k above,
-    ap one_if (ne_eqb number k other)))
-    (λ not_above. omega (arith, below_yes (number + 1) k (omega (arith, not_above)), below_yes number k (omega (arith, not_above)),
-    ap one_if (ne_eqb number k other))))
+    (λ same. omega (
+      arith,
+      below_yes (number + 1) k (omega (arith, same)),
+      below_no number k (omega (arith, same)),
+      ap one_if (eq-eqb number k same),
+    ))
+    (λ other. let none = ap one_if (ne_eqb number k other) in dite (dec_le number k)
+    (λ above. omega (arith, below_no (number + 1) k (omega (arith, above, other)), below_no number k above, none))
+    (λ not_above. let yes = below_yes number k (omega (arith, not_above)) in
+    omega (arith, below_yes (number + 1) k (omega (arith, not_above)), yes, none)))

@@ -37,7 +37,8 @@ module _ (feeders : ℕ) where
 
   -- few tickets were drawn
   tickets_few : (s : St) (r : Dealt feeders s) → get_or s.words 0 0 ≤ 17 * 2 ^ 32
-  tickets_few s r = let few = total_times (λ v. length v.drawn) (λ v. v.shares) (2 ^ 32) s.views (λ j v at. (r.each_hand j v at).few) in
+  tickets_few s r =
+      let few = total_times (λ v. length v.drawn) (λ v. v.shares) (2 ^ 32) s.views (λ j v at. (r.each_hand j v at).few) in
       let sum = r.sum in let shares = r.shares in let at_most = r.some_feeders in
       let t : ℕ = sum_by (λ v. length v.drawn) s.views in let n : ℕ = sum_by (λ v. v.shares) s.views in
       let few' : t ≤ n * 2 ^ 32 = few in let sum' : t ≡ get_or s.words 0 0 = sum in let shares' : n ≡ feeders + 9 = shares in

@@ -93,7 +93,8 @@ module _ {E : Type 0} (may_add : ℕ → E → Bool) where
       → ByOthers may_add number es → own may_add number es ≡ []
   own_none alone number [] by_others = refl
   own_none alone number (e ∷ es) by_others =
-      let never = false_from_ne_true (may_add number e) (λ yes. by_others.0.1 (alone by_others.0.0 number e by_others.0.2 yes)) in
+      let never = false_from_ne_true (may_add number e)
+      (λ yes. by_others.0.1 (alone by_others.0.0 number e by_others.0.2 yes)) in
       ap (λ (b : Bool). cond b (e ∷ own may_add number es) (own may_add number es)) never ∙ own_none alone number es by_others.1
 
   -- where a list grows by others' entries, the seat's own entries are those that it began with

@@ -39,7 +39,8 @@ module _ {E B : Type 0} {b : B} {f : List E} {owners : List ℕ} {added : List (
     few = ok.few;
     since = ok.since;
     ended = let old = ok.ended in omega (arith, old, long);
-    last_is = ok.last_is ∙ ap (λ (z : List (List E)). f ++ all_added z) (sym (take-append-le ok.since added (entries ∷ []) ok.ended));
+    last_is = ok.last_is
+        ∙ ap (λ (z : List (List E)). f ++ all_added z) (sym (take-append-le ok.since added (entries ∷ []) ok.ended));
     latest = ok.latest;
     others = λ i from below mine. ⊎_elim
         (λ last. other
