@@ -1,6 +1,6 @@
-//! Records read from bytes, in one pass: each whole record's bytes are copied once, those of a large
-//! one into its frame, those of small ones that follow one another into a piece that their frames
-//! share.
+//! Records read from bytes, in one pass: each whole record's data is copied once, that of a large
+//! one into its frame, that of small ones that follow one another into a piece that their frames
+//! share, without their headers.
 ghost use Rattle.std.specs.Prelude.{◌≡◌, ◌+◌, ◌*◌, ◌-◌, ◌≤◌, ◌<◌, ◌⊎◌, [], ◌++◌, false, true};
 ghost use Rattle.std.specs.Prelude.{length, take, drop, IfOk, OnOk, OnErr, IfSome, MatchOption};
 ghost use Rattle.capture_file.specs.Pcap.{begins_whole, begins_oversized, record_size};
@@ -28,8 +28,8 @@ const LARGEST_RECORD: u32 = 262_144;
 /// choice.
 const LARGEST_SHARED: usize = 272;
 
-/// The number of bytes from which on no further record is copied into a piece: this project's own
-/// choice. A piece lives as long as any of its frames.
+/// The number of bytes from which on no further record's data is copied into a piece: this
+/// project's own choice. A piece lives as long as any of its frames.
 const PIECE: usize = 2048;
 
 /// The greatest number of nanoseconds within a second.
@@ -229,29 +229,58 @@ impl Reader {
         Ok((next, rest))
     }
 
-    /// The data of the whole record of this size that the bytes begin with, given the front of them
-    /// that was copied with the records before it. A large record's is copied on its own, as is a
-    /// small one's before a large one; another small one's with those of the records behind it.
-    #[tactic(auto, using(crate::proofs::RecordCopies::record_in_front, crate::proofs::RecordCopies::front_behind))]
+    /// The data of the whole record of this size that the bytes begin with, given the batch of the
+    /// records at their start. A large record's is copied on its own, as is a small one's before a
+    /// large one; another small one's with those of the records behind it.
+    #[tactic(auto, using(crate::proofs::RecordCopies::has_next, crate::proofs::RecordCopies::next_is, crate::proofs::RecordCopies::front_behind))]
     fn data_of(self, batch: &mut Batch, bytes: &[u8], size: usize) -> Result<ByteList, Memory>
         requires header { 16 ≤ size }
+        requires first { size ≡ record_size self.format.order bytes.now }
         requires whole { size ≤ length bytes.now }
         requires few { length bytes.now ≤ 33554432 }
-        requires front { IsFrontOf batch.old bytes.now }
+        requires front { IsFrontOf self.format.order batch.old bytes.now }
         ensures value { IfOk result (λ list. list ≡ drop 16 (take size bytes.now)) }
-        ensures front { OnOk result (IsFrontOf batch.new (drop size bytes.now)) }
+        ensures front { OnOk result
+            (IsFrontOf self.format.order batch.new (drop size bytes.now)) }
     {
-        if batch.len() < size {
-            let (front, _) = bytes.split_at(small_records(self.format.order, bytes));
-            if front.len() <= size {
-                let (record, _) = bytes.split_at(size);
+        if batch.is_empty() {
+            let (record, behind) = bytes.split_at(size);
+            if size > LARGEST_SHARED || small_record(self.format.order, behind).is_none() {
                 let (_, data) = record.split_at(RECORD_HEADER_SIZE);
-                *batch = Batch::new();
                 return Ok(ByteList::from_vec(data.to_vec(self.alloc)?));
             }
-            *batch = Batch::of(self.alloc, front)?;
+            *batch = self.batch_of(bytes, size)?;
         }
-        batch.next_data(self.alloc, size)
+        batch.next_data(self.alloc, size - RECORD_HEADER_SIZE)
+    }
+
+    /// The batch of the record of this size that the bytes begin with and of the small records
+    /// behind it, up to one that ends beyond what a piece has.
+    fn batch_of(self, bytes: &[u8], size: usize) -> Result<Batch, Memory>
+        requires header { 16 ≤ size }
+        requires first { size ≡ record_size self.format.order bytes.now }
+        requires whole { size ≤ length bytes.now }
+        requires few { length bytes.now ≤ 33554432 }
+        ensures some { IfOk result (λ batch. 0 < batch.records) }
+        ensures front { IfOk result (λ batch. IsFrontOf self.format.order batch bytes.now) }
+    {
+        let (first, behind) = bytes.split_at(size);
+        let (_, data) = first.split_at(RECORD_HEADER_SIZE);
+        let room = small_data(self.format.order, bytes);
+        let mut piece = Vec::with_capacity(self.alloc, room)?;
+        piece.extend_from_slice(data)?;
+        let mut records = 1;
+        let mut rest = behind;
+        while piece.len() < PIECE {
+            let Some((record, behind)) = small_record(self.format.order, rest) else {
+                break;
+            };
+            let (_, more) = record.split_at(RECORD_HEADER_SIZE);
+            piece.extend_from_slice(more)?;
+            records += 1;
+            rest = behind;
+        }
+        Batch::of(self.alloc, piece, records)
     }
 
     /// The frame of a whole record with this data.
@@ -273,21 +302,6 @@ impl Reader {
             tag: None,
         }
     }
-}
-
-/// The number of bytes of the whole small records that bytes begin with, up to one that ends beyond
-/// what a piece has.
-fn small_records(order: Order, bytes: &[u8]) -> usize
-    ensures { result ≤ length bytes.now }
-{
-    let mut rest = bytes;
-    while bytes.len() - rest.len() < PIECE {
-        match first_record(order, rest) {
-            Some((record, behind)) if record.len() <= LARGEST_SHARED => rest = behind,
-            _ => break,
-        }
-    }
-    bytes.len() - rest.len()
 }
 
 impl Place {
@@ -325,6 +339,33 @@ fn first_record(order: Order, bytes: &[u8]) -> Option<(&[u8], &[u8])>
         return None;
     }
     Some(bytes.split_at(size))
+}
+
+/// The whole small record at the start, and what is after it. `None` if there isn't one.
+fn small_record(order: Order, bytes: &[u8]) -> Option<(&[u8], &[u8])>
+    ensures size { IfSome result (λ x. 16 ≤ length x.0.now) }
+    ensures parts { IfSome result (λ x. length x.0.now + length x.1.now ≡ length bytes.now) }
+    ensures whole { IfSome result (λ x. BeginsWith order bytes.now x.0.now x.1.now) }
+{
+    match first_record(order, bytes) {
+        Some((record, behind)) if record.len() <= LARGEST_SHARED => Some((record, behind)),
+        _ => None,
+    }
+}
+
+/// The number of bytes of the data of the whole small records that bytes begin with, up to a record
+/// that ends beyond what a piece has: a piece takes no more memory than its frames.
+fn small_data(order: Order, bytes: &[u8]) -> usize {
+    let mut size = 0usize;
+    let mut rest = bytes;
+    while size < PIECE {
+        let Some((record, behind)) = small_record(order, rest) else {
+            break;
+        };
+        size += record.len() - RECORD_HEADER_SIZE;
+        rest = behind;
+    }
+    size
 }
 
 /// Whether the bytes begin with the header of an oversized record.

@@ -1,8 +1,26 @@
-use Rattle.std.proofs.Common.{sym, ◌∙◌, rules}
+use Rattle.std.proofs.Common.{refl, sym, ◌∙◌, arith, rules}
+use Rattle.std.proofs.lemmas.List.{take_all}
 use Rattle.capture_file.proofs.Lists.{front_more}
-use Rattle.capture_file.proofs.RecordCopies.{behind_first}
+use Rattle.capture_file.specs.Batches.{data_in}
+use Rattle.capture_file.proofs.RecordCopies.{behind_first, size_of_first}
 use Rattle.capture_file.proofs.Records.{read_from-none, reads_on}
 use Rattle.capture_file.proofs.record_reader.Reader.read_records.Goals as goal
+
+pub loop-record-init : goal.loop-record-init
+unfolding data_in
+loop-record-init c = record {
+  reads = search rules;
+  front = take_all _ c.args.into.now (omega arith);
+  count = search rules;
+  places = search rules;
+  fewer = search rules;
+  copied = rw c.new-batch.ensures refl;
+}
+
+pub data_of-requires-clause-first : goal.data_of-requires-clause-first
+data_of-requires-clause-first c =
+    size_of_first c.args.self.format.order c.loop-record.rest.now c.in-Some.record.now c.in-Some.behind.now
+    c.in-Some.ensures.whole
 
 pub loop-record-preserved : goal.loop-record-preserved
 loop-record-preserved c =
@@ -15,7 +33,7 @@ loop-record-preserved c =
       count = search rules;
       places = search rules;
       fewer = search rules;
-      copied = rw (whole.behind_is ∙ behind_first _ c.in-Some.record.now c.loop-record.rest.now whole.first_is)
+      copied = rw (behind_first c.args.self.format.order c.loop-record.rest.now c.in-Some.record.now _ whole)
           c.in_ok-captured.ensures.front;
     }
 

@@ -12,7 +12,7 @@ invariant-loop-record l = record {
   count : 16 * l.next.index ≤ l.next.stop;
   places : l.next.stop + length l.rest ≡ l.fn.next.stop + length l.bytes;
   fewer : length l.rest ≤ length l.bytes;
-  copied : IsFrontOf l.batch l.rest;
+  copied : IsFrontOf l.self.format.order l.batch l.rest;
 }
 
 abbrev pub decreases-loop-record : goal.decreases-loop-record
