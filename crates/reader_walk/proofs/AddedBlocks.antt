@@ -1,7 +1,6 @@
 -- A reader with one more block or slot.
 use Rattle.std.proofs.Common.{◌≡◌, ℕ, Bool, List, ◌∙◌, ap, refl, subst, sym}
 use Rattle.std.specs.Prelude.{OnErr, OnOk, Option, Result, Ok, Err}
-use Rattle.frame_view.specs.declared.memory.Memory.{Memory}
 use Rattle.tp_layout.specs.Layouts.{Taken}
 use Rattle.tp_layout.specs.declared.requests.RingRequest.{RingRequest}
 use Rattle.reader_walk.specs.Readers.{ReaderValue, has_read}
@@ -10,8 +9,8 @@ use Rattle.reader_walk.specs.Texts.{kept_if}
 use Rattle.reader_walk.specs.declared.copies.Copies.{Copies}
 use Rattle.reader_walk.proofs.MarkedBlocks.{counted_more, dump_more, one_more}
 
-sound_with : (text : RingRequest → Taken → List ℕ) (shape : RingRequest) (dumps : Bool) (before after : Copies) (taken : Taken)
-    (result : Result (Unit {0}) Memory) → IsSound text shape dumps before
+sound_with : {E : Type 0} (text : RingRequest → Taken → List ℕ) (shape : RingRequest) (dumps : Bool) (before after : Copies) (taken : Taken)
+    (result : Result (Unit {0}) E) → IsSound text shape dumps before
     → Adds taken (kept_if dumps (text shape taken)) before after result → IsSound text shape dumps after
 sound_with text shape dumps before after taken (Ok u) sound adds = record {
   counted = rw (adds.marks, adds.walked) (counted_more before.marks.items before.walked.items taken sound.counted);
@@ -29,9 +28,9 @@ sound_with text shape dumps before after taken (Err e) sound adds = record {
   dump = rw (adds.same_dump, adds.same_marks, adds.same_walked) sound.dump;
 }
 
-ok_with : (text : RingRequest → Taken → List ℕ) (taken_in : RingRequest → List ℕ → Taken) (shape : RingRequest) (dumps : Bool)
+ok_with : {E : Type 0} (text : RingRequest → Taken → List ℕ) (taken_in : RingRequest → List ℕ → Taken) (shape : RingRequest) (dumps : Bool)
     (held : Option (List ℕ)) (bytes : List ℕ) (before after : Copies) (value : ReaderValue) (kept : List ℕ)
-    (result : Result (Unit {0}) Memory)
+    (result : Result (Unit {0}) E)
     → reader_value shape dumps before held ≡ value → IsSound text shape dumps before
     → Adds (taken_in shape bytes) kept before after result
     → OnOk result (reader_value shape dumps after held ≡ record (has_read taken_in bytes value) { held = value.held })
@@ -41,8 +40,8 @@ ok_with text taken_in shape dumps held bytes before after value kept (Ok u) view
     ∙ ap (λ (v : ReaderValue). record (has_read taken_in bytes v) { held = v.held }) view
 ok_with text taken_in shape dumps held bytes before after value kept (Err e) view sound adds = tt
 
-err_with : (taken : Taken) (kept : List ℕ) (shape : RingRequest) (dumps : Bool) (held : Option (List ℕ)) (before after : Copies)
-    (value : ReaderValue) (result : Result (Unit {0}) Memory) → reader_value shape dumps before held ≡ value
+err_with : {E : Type 0} (taken : Taken) (kept : List ℕ) (shape : RingRequest) (dumps : Bool) (held : Option (List ℕ)) (before after : Copies)
+    (value : ReaderValue) (result : Result (Unit {0}) E) → reader_value shape dumps before held ≡ value
     → Adds taken kept before after result → OnErr result (reader_value shape dumps after held ≡ value)
 err_with taken kept shape dumps held before after value (Ok u) view adds = tt
 err_with taken kept shape dumps held before after value (Err e) view adds =
@@ -50,9 +49,9 @@ err_with taken kept shape dumps held before after value (Err e) view adds =
     (rw (adds.same_marks, adds.same_walked) refl) ∙ view
 
 -- a block or a slot of its own shape, which is the reader's, was added or not
-module _ (text : RingRequest → Taken → List ℕ) (taken_in : RingRequest → List ℕ → Taken) (own shape : RingRequest)
+module _ {E : Type 0} (text : RingRequest → Taken → List ℕ) (taken_in : RingRequest → List ℕ → Taken) (own shape : RingRequest)
     (dumps : Bool)
-    (held : Option (List ℕ)) (bytes : List ℕ) (before after : Copies) (value : ReaderValue) (result : Result (Unit {0}) Memory)
+    (held : Option (List ℕ)) (bytes : List ℕ) (before after : Copies) (value : ReaderValue) (result : Result (Unit {0}) E)
     (is_own : own ≡ value.shape) (view : reader_value shape dumps before held ≡ value) (sound : IsSound text shape dumps before)
     (adds : Adds (taken_in own bytes) (kept_if dumps (text own (taken_in own bytes))) before after result) where
   added : Adds (taken_in shape bytes) (kept_if dumps (text shape (taken_in shape bytes))) before after result

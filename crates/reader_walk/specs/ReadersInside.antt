@@ -2,7 +2,6 @@
 use Rattle.std.specs.Prelude.{◌≡◌, ℕ, ◌+◌, Bool, List, [], ◌∷◌, ◌++◌, length, take, drop, Option}
 use Rattle.std.specs.Prelude.{OnErr, OnOk, Result}
 use Rattle.frame_view.specs.declared.frames.Packet.{Packet}
-use Rattle.frame_view.specs.declared.memory.Memory.{Memory}
 use Rattle.tp_layout.specs.Layouts.{Taken}
 use Rattle.tp_layout.specs.declared.requests.RingRequest.{RingRequest}
 use Rattle.reader_walk.specs.Readers.{ReaderValue, kept_texts}
@@ -48,8 +47,8 @@ pub record IsSound (text : RingRequest → Taken → List ℕ) (shape : RingRequ
   pub dump : copies.dump.items ≡ kept_texts text dumps shape (blocks_of copies)
 
 -- what was taken was added to what was read, with this part of its text, or all is as before
-pub record Adds (taken : Taken) (text : List ℕ) (before after : Copies)
-    (result : Result (Unit {0}) Memory) : Type 0 where
+pub record Adds {E : Type 0} (taken : Taken) (text : List ℕ) (before after : Copies)
+    (result : Result (Unit {0}) E) : Type 0 where
   pub marks : OnOk result (after.marks.items ≡ before.marks.items ++ mark_of taken ∷ [])
   pub walked : OnOk result (after.walked.items ≡ before.walked.items ++ taken.packets)
   pub dump : OnOk result (after.dump.items ≡ before.dump.items ++ text)

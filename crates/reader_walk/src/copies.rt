@@ -1,6 +1,6 @@
 //! The packets of the blocks or slots that were read, and which packets are of which block.
 ghost use Rattle.std.specs.Prelude.{◌≡◌, ◌+◌, ◌-◌, ◌≤◌, ℕ, [], ◌∷◌, ◌++◌, length, take, vec_len};
-ghost use Rattle.std.specs.Prelude.{vec_capacity, IfOk, OnErr, OnOk};
+ghost use Rattle.std.specs.Prelude.{vec_capacity, IfErr, IfOk, OnErr, OnOk};
 ghost use Rattle.reader_walk.specs.Texts.{kept_if};
 
 use frame_view::{Memory, Packet};
@@ -27,6 +27,8 @@ pub(crate) struct Copies {
     pub(crate) walked: Vec<Packet>,
     /// Their texts, in order, if they are kept.
     pub(crate) dump: Vec<u8>,
+    /// Memory for the data of the next block that is taken over, whose content says nothing.
+    pub(crate) room: Vec<u8>,
 }
 
 impl Copies {
@@ -52,23 +54,27 @@ impl Copies {
         self.add_mark(unit.head(), earlier, texts, pushed)
     }
 
-    /// Adds a block or a slot as `add` does, whose packets may keep its memory.
+    /// Adds a block or a slot as `add` does, whose memory may be the room of the next one. If memory
+    /// runs out it comes back, and all is as before but the room.
     pub(crate) fn take_over<B: Layout>(
         &mut self,
         alloc: Global,
         unit: B,
         dumps: bool,
-    ) -> Result<(), Memory>
+    ) -> Result<(), B>
         requires ready { (number : ℕ) × (status : ℕ) × B.ready unit number status }
-        ensures { Adds (B.taken_in (B.shape unit) (B.bytes unit))
+        ensures back { IfErr result (λ back. back ≡ unit) }
+        ensures adds { Adds (B.taken_in (B.shape unit) (B.bytes unit))
             (kept_if dumps
             (B.text_of (B.shape unit) (B.taken_in (B.shape unit) (B.bytes unit))))
             self.old self.new result }
     {
-        let texts = self.add_text(&unit, dumps)?;
+        let Ok(texts) = self.add_text(&unit, dumps) else {
+            return Err(unit);
+        };
         let earlier = self.walked.len();
         let head = unit.head();
-        let pushed = unit.into_packets(alloc, &mut self.walked);
+        let pushed = unit.into_packets(alloc, &mut self.room, &mut self.walked);
         self.add_mark(head, earlier, texts, pushed)
     }
 
@@ -95,13 +101,13 @@ impl Copies {
 
     /// Adds the mark of a block or a slot whose packets were pushed, or takes back what was pushed
     /// of them and its text.
-    fn add_mark(
+    fn add_mark<E: Drop>(
         &mut self,
         head: (u64, u32),
         earlier: usize,
         texts: usize,
-        pushed: Result<(), Memory>,
-    ) -> Result<(), Memory>
+        pushed: Result<(), E>,
+    ) -> Result<(), E>
         requires room { vec_len self.old.marks + 1 ≤ vec_capacity self.old.marks }
         requires earlier { earlier ≤ length self.old.walked.items }
         ensures passed_on { result ≡ pushed }
@@ -121,7 +127,7 @@ impl Copies {
         if pushed.is_err() {
             self.walked.truncate(earlier);
             self.dump.truncate(texts);
-            return Err(Memory);
+            return pushed;
         }
         self.marks.push_reserved(Mark {
             number: head.0,

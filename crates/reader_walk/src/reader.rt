@@ -6,10 +6,10 @@
 //! out in between it keeps it, and the next step goes on with it: no packet is lost and none is
 //! read twice.
 ghost use Rattle.std.specs.Prelude.{◌≡◌, ◌≢◌, ◌+◌, ◌<◌, ◌≤◌, ◌^◌, ℕ, List, false, None, Some, Ok};
-ghost use Rattle.std.specs.Prelude.{length, is_some, IfNone, IfOk, IfSome, IsTrue, OnErr, OnOk};
-ghost use Rattle.std.specs.Prelude.{OnSome};
+ghost use Rattle.std.specs.Prelude.{length, is_some, IfErr, IfNone, IfOk, IfSome, IsTrue, OnErr};
+ghost use Rattle.std.specs.Prelude.{OnOk, OnSome};
 ghost use Rattle.ring_words.specs.Counts.{Rose};
-ghost use Rattle.ring_words.specs.PlainRings.{Stays, Took, walk_of};
+ghost use Rattle.ring_words.specs.PlainRings.{GaveBack, PlainState, Stays, Took, walk_of};
 ghost use Rattle.tp_layout.specs.Requests.{numbers_of};
 
 use crate::copies::Copies;
@@ -76,6 +76,7 @@ impl<B: Layout> RingReader<B> {
                 marks: Vec::new(alloc),
                 walked: Vec::new(alloc),
                 dump: Vec::new(alloc),
+                room: Vec::new(alloc),
             },
             held: None,
         }
@@ -153,8 +154,9 @@ impl<B: Layout> RingReader<B> {
         self.copies.add(self.alloc, unit, self.dumps)
     }
 
-    /// Takes a block or a slot out of a ring whose feeder is done, and reads it; `false` if none
-    /// waits. Its packets may keep its memory, so it isn't given back. After `Memory` it is lost.
+    /// Reads one block or slot of a ring whose feeder is done, and gives its place back; `false` if
+    /// none waits. Its memory may be that of the packets of the next one. After `Memory` it stays in
+    /// the reader unread, and the next call goes on with it.
     pub fn take_over(&mut self, ring: &mut ClosingRing<B>) -> Result<bool, Memory>
         requires kind { (walk_of ring.old).ring.kind ≡ numbers_of self.old.shape }
         requires hand { (walk_of ring.old).in_hand ≡ is_some self.old.held }
@@ -165,30 +167,64 @@ impl<B: Layout> RingReader<B> {
         ensures read { IfOk result (λ stepped. IsTrue stepped
             → Reads B.taken_in (Took ring.old ring.new) self.old self.new) }
 
+        // Its place was given back.
+        ensures gave_back { IfOk result (λ stepped. IsTrue stepped
+            → GivesBack Took (λ before after content. GaveBack before after) self.old.held
+            ring.old ring.new) }
+
         // None was there, and nothing changes except the count of looks that found none.
         ensures none { IfOk result (λ stepped. stepped ≡ false → self.old.held ≡ None) }
         ensures same { IfOk result (λ stepped. stepped ≡ false → self.new ≡ self.old) }
         ensures stays { IfOk result (λ stepped. stepped ≡ false → Stays ring.old ring.new) }
+        ensures looked { IfOk result (λ stepped. stepped ≡ false
+            → Rose (walk_of ring.old).empties (walk_of ring.new).empties) }
+        ensures once { IfOk result (λ stepped. stepped ≡ false
+            → (walk_of ring.new).empties ≤ (walk_of ring.old).empties + 1) }
         ensures waiting { IfOk result (λ stepped. stepped ≡ false
             → (blocks : ℕ) → (walk_of ring.old).waiting ≡ Some blocks → blocks ≡ 0) }
 
-        ensures hand { IfOk result (λ _. (walk_of ring.new).in_hand ≡ is_some self.new.held) }
+        // If it has one, no look found none.
+        ensures found { result ≢ Ok false
+            → (walk_of ring.new).empties ≡ (walk_of ring.old).empties }
+
+        // After `Memory` it is in the reader.
+        ensures kept { OnErr result (Keeps (Took ring.old ring.new) self.old self.new) }
+
+        // If the reader held it before, the ring is as before.
+        ensures unmoved { OnErr result ((content : List ℕ) → self.old.held ≡ Some content
+            → ring.new ≡ ring.old) }
+
+        // One that was taken in an earlier call is still the one that was taken then.
+        ensures goes_on { (earlier : PlainState) (content : List ℕ)
+            → self.old.held ≡ Some content
+            → Took earlier ring.old content → Took earlier ring.new content }
+
+        ensures hand { (walk_of ring.new).in_hand ≡ is_some self.new.held }
+        ensures ring { (walk_of ring.new).ring ≡ (walk_of ring.old).ring }
     {
         let Some(unit) = self.next_unit(ring) else {
             return Ok(false);
         };
-        ring.release_place(FREE);
-        self.keep_block(unit)?;
-        Ok(true)
+        match self.keep_block(unit) {
+            Ok(()) => {
+                ring.release_place(FREE);
+                Ok(true)
+            }
+            Err(back) => {
+                self.held = Some(back);
+                Err(Memory)
+            }
+        }
     }
 
-    /// Reads a block or a slot for good: its packets may keep its memory. After `Memory` nothing
-    /// has changed but that it is lost.
-    fn keep_block(&mut self, unit: B) -> Result<(), Memory>
+    /// Reads a block or a slot for good: its memory may be that of the packets of the next one. If
+    /// memory runs out it comes back, and nothing has changed.
+    fn keep_block(&mut self, unit: B) -> Result<(), B>
         requires readable { IsRetiredUnit B.shape B.ready self.old.shape unit }
         requires few { length self.old.taken < 2 ^ 55 }
         ensures read { OnOk result (self.new
             ≡ record (has_read B.taken_in (B.bytes unit) self.old) { held = self.old.held }) }
+        ensures back { IfErr result (λ back. back ≡ unit) }
         ensures err { OnErr result (self.new ≡ self.old) }
     {
         self.copies.take_over(self.alloc, unit, self.dumps)

@@ -136,8 +136,8 @@ impl<R: ReceiveRing, K: Setting> Member<R, K> {
         }
     }
 
-    /// Closes the ring, and reads all that still waits. Packets may keep the memory of their block;
-    /// all other memory of the ring is freed.
+    /// Closes the ring, and reads all that still waits. Packets may take the memory of a block that
+    /// was read; all other memory of the ring is freed.
     pub(crate) fn close(self, alloc: Global) -> Result<MemberReport, Memory>
         ensures { IfOk result (λ report. report
             ≡ reported_by R.Unit.text_of R.reads K.shape K.dumps (finished_ring self)) }

@@ -37,7 +37,16 @@ impl Layout for Slot {
         Ok(())
     }
 
-    fn into_packets(self, alloc: Global, into: &mut Vec<Packet>) -> Result<(), Memory> {
-        self.push_packets(alloc, into)
+    /// The data of the one packet are copied, and the room isn't used.
+    fn into_packets(
+        self,
+        alloc: Global,
+        _room: &mut Vec<u8>,
+        into: &mut Vec<Packet>,
+    ) -> Result<(), Slot> {
+        match self.push_packets(alloc, into) {
+            Ok(()) => Ok(()),
+            Err(Memory) => Err(self),
+        }
     }
 }

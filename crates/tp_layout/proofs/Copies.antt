@@ -87,26 +87,6 @@ part_is all part rest from e = rw e (take-append_seam part rest)
 pub part_rest : (all part rest : List ℕ) (from : ℕ) → drop from all ≡ part ++ rest → drop (from + length part) all ≡ rest
 part_rest all part rest from e = sym (drop-drop (length part) from all) ∙ rw e (drop-append_seam part rest)
 
--- ---- data that stays where it is
-
--- the rest of a piece has what is needed of it
-pub shared_within : (piece rest : List ℕ) (at need : ℕ) → rest ≡ drop at piece → at ≤ length piece → need ≤ length rest
-    → at + need ≤ length piece
-shared_within piece rest at need place within fits =
-    omega (arith, within, fits, ap length place, length-drop at piece)
-
--- a packet's data, in the piece
-pub shared_data : (piece rest : List ℕ) (at snap : ℕ) → rest ≡ drop at piece → snap ≡ number_at 4 12 rest
-    → take snap (drop (at + 82) piece) ≡ (packet_at rest).bytes
-unfolding packet_at
-shared_data piece rest at snap place e =
-    rw e (ap (λ (all : List ℕ). take (number_at 4 12 rest) all)
-    (sym (drop-drop 82 at piece) ∙ ap (λ (all : List ℕ). drop 82 all) (sym place)))
-
--- the rest after a packet
-pub shared_rest : (piece rest : List ℕ) (at need : ℕ) → rest ≡ drop at piece → drop need rest ≡ drop (at + need) piece
-shared_rest piece rest at need place = ap (λ (all : List ℕ). drop need all) place ∙ drop-drop need at piece
-
 -- ---- a list with one more item
 
 pub front_kept : {X : Type 0} (old into : List X) (x : X) → take (length old) into ≡ old

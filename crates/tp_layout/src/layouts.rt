@@ -1,18 +1,15 @@
 //! What a reader reads of a ring: blocks of packets, or slots of one packet each.
-ghost use Rattle.std.specs.Prelude.{◌≡◌, ◌≤◌, ◌++◌, ℕ, List, OnOk, length, take, drop};
-ghost use Rattle.tp_layout.specs.Checks.{PassesTests};
-ghost use Rattle.tp_layout.specs.Faults.{packets_in};
+ghost use Rattle.std.specs.Prelude.{◌≡◌, ◌++◌, ℕ, List, IfErr, OnOk, length, take};
 ghost use Rattle.tp_layout.specs.Layouts.{Taken};
 ghost use Rattle.tp_layout.specs.Requests.{numbers_of};
 ghost use Rattle.tp_layout.specs.declared.requests.RingRequest.{RingRequest};
 
 use crate::fields::{u32_at, u64_at};
-use crate::packet_walks::push_shared;
-use crate::ring_blocks::DenseText;
 use crate::{Block, a_shape_is_sound, packets_of, text_of};
-use frame_view::{Memory, Packet, Piece};
+use frame_view::{Memory, Packet};
 use ring_model::Content;
 use std::alloc::Global;
+use std::mem;
 
 /// A block or a slot of a ring, whose packets can be read where it may be retired. Contracts see
 /// what is read from its bytes, and the text of that.
@@ -47,12 +44,19 @@ pub trait Layout: Content + Drop {
             ≡ into.old.items ++ (taken_in (shape self.now) (Self.bytes self.now)).packets) }
         ensures front { take (length into.old.items) into.new.items ≡ into.old.items };
 
-    /// Appends its packets, whose data may stay in its memory. After `Memory` some of them follow
-    /// those that were there.
-    fn into_packets(self, alloc: Global, into: &mut Vec<Packet>) -> Result<(), Memory>
+    /// Appends its packets. Their data may take the memory of `room`, whose content is lost, and
+    /// its own memory may be the next room. If memory runs out it comes back, and some of its
+    /// packets follow those that were there.
+    fn into_packets(
+        self,
+        alloc: Global,
+        room: &mut Vec<u8>,
+        into: &mut Vec<Packet>,
+    ) -> Result<(), Self>
         requires ready { (number : ℕ) × (status : ℕ) × Self.ready self number status }
         ensures packets { OnOk result (into.new.items
             ≡ into.old.items ++ (taken_in (shape self) (Self.bytes self)).packets) }
+        ensures back { IfErr result (λ unit. unit ≡ self) }
         ensures front { take (length into.old.items) into.new.items ≡ into.old.items };
 
     // What all of one ring have in common is their shape.
@@ -89,27 +93,22 @@ impl Layout for Block {
         packets_of(self.bytes(), self.shape()).push_copies(alloc, into)
     }
 
-    /// The data stay in the block's memory if they are at least half of it; otherwise they are
-    /// copied, and the block's memory is freed.
+    /// The data are gathered in the room, and what is left of it is freed. The block's memory is
+    /// the next room.
     #[tactic(auto, unfolding(crate::specs::Layouts::taken_in))]
-    fn into_packets(self, alloc: Global, into: &mut Vec<Packet>) -> Result<(), Memory> {
-        match self.into_dense_text() {
-            Ok(text) => push_text(alloc, text, into),
-            Err(block) => block.push_packets(alloc, into),
+    fn into_packets(
+        self,
+        alloc: Global,
+        room: &mut Vec<u8>,
+        into: &mut Vec<Packet>,
+    ) -> Result<(), Block> {
+        let data = mem::replace(room, Vec::new(alloc));
+        match packets_of(self.bytes(), self.shape()).push_gathered(alloc, data, into) {
+            Ok(()) => {
+                *room = self.into_written();
+                Ok(())
+            }
+            Err(Memory) => Err(self),
         }
     }
-}
-
-/// Appends the packets of a text, which passed the tests.
-fn push_text(alloc: Global, text: DenseText, into: &mut Vec<Packet>) -> Result<(), Memory>
-    requires order { text.first ≤ length text.bytes.items }
-    requires passes { PassesTests text.count (drop text.first text.bytes.items) }
-    requires small { length text.bytes.items ≤ 1048576 }
-    ensures packets { OnOk result (into.new.items
-        ≡ into.old.items ++ packets_in text.count (drop text.first text.bytes.items)) }
-    ensures front { take (length into.old.items) into.new.items ≡ into.old.items }
-{
-    let size = text.bytes.len() as u32;
-    let piece = Piece::new(alloc, text.bytes)?;
-    push_shared(alloc, &piece, text.first, size, text.count, into)
 }

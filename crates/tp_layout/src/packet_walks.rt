@@ -1,5 +1,5 @@
 //! The packets of a block that passed its tests, one after another.
-ghost use Rattle.std.specs.Prelude.{◌≡◌, ◌≤◌, ◌++◌, length, take, drop, IfOk, OnOk};
+ghost use Rattle.std.specs.Prelude.{◌≡◌, ◌≤◌, ◌++◌, length, take, IfOk, OnOk};
 ghost use Rattle.tp_layout.specs.Faults.{packets_in};
 ghost use Rattle.tp_layout.specs.Checks.{PassesTests};
 ghost use Rattle.tp_layout.specs.Readers.{data_of, seen};
@@ -10,6 +10,9 @@ use frame_view::{ByteList, Memory, Packet, Piece};
 use ring_model::need;
 use std::alloc::Global;
 use std::marker::Model;
+
+/// The bytes of a packet's header and link address, which come before its data.
+const PACKET_HEADER: usize = 82;
 
 /// The packets of a block, read in place. Contracts see it as the list of the packets that are
 /// left.
@@ -51,13 +54,27 @@ impl<'a> PacketWalk<'a> {
         ensures front { take (length into.old.items) into.new.items ≡ into.old.items }
     {
         if self.left > 1 {
-            let piece = Piece::new(alloc, data_of(alloc, self.left, self.rest)?)?;
-            return self.push_parts(alloc, &piece, into);
+            return self.push_gathered(alloc, Vec::new(alloc), into);
         }
         for packet in self {
             into.push(packet.to_packet(alloc)?)?;
         }
         Ok(())
+    }
+
+    /// Appends all packets, whose data are gathered in this room: its content is lost, and what is
+    /// left of it is freed. After `Memory` some packets follow those that were there.
+    pub(crate) fn push_gathered(
+        self,
+        alloc: Global,
+        room: Vec<u8>,
+        into: &mut Vec<Packet>,
+    ) -> Result<(), Memory>
+        ensures copies { OnOk result (into.new.items ≡ into.old.items ++ self.entry) }
+        ensures front { take (length into.old.items) into.new.items ≡ into.old.items }
+    {
+        let piece = Piece::new(alloc, data_of(room, self.left, self.rest)?)?;
+        self.push_parts(alloc, &piece, into)
     }
 
     /// Appends all packets, whose data are parts of this piece. After `Memory` some of them follow
@@ -80,61 +97,29 @@ impl<'a> PacketWalk<'a> {
     }
 }
 
-/// Appends the packets of a piece of this size, which passed the tests and begin at this place.
-/// Their data stay where they are: they are parts of the piece. After `Memory` some of the packets
-/// follow those that were there.
-pub(crate) fn push_shared(
-    alloc: Global,
-    piece: &Piece,
-    first: u32,
-    size: u32,
-    count: u32,
-    into: &mut Vec<Packet>,
-) -> Result<(), Memory>
-    requires size { length piece.now ≡ size }
-    requires order { first ≤ size }
-    requires passes { PassesTests count (drop first piece.now) }
-    ensures packets { OnOk result
-        (into.new.items ≡ into.old.items ++ packets_in count (drop first piece.now)) }
-    ensures front { take (length into.old.items) into.new.items ≡ into.old.items }
-{
-    let area = piece.part(alloc, first, size - first)?;
-    into.reserve(count as usize)?;
-    let mut rest = area.as_slice();
-    let mut at = first;
-    let mut left = count;
-    while left > 0 {
-        let snap = u32_at(rest, 12);
-        let bytes = piece.part(alloc, at + 82, snap)?;
-        into.push_reserved(with_bytes(&packet_at(rest), bytes));
-        let (_, tail) = rest.split_at(need(snap) as usize);
-        rest = tail;
-        at += need(snap);
-        left -= 1;
-    }
-    Ok(())
-}
-
-/// The data of the packets of bytes that passed the tests, one after another.
-fn data_of(alloc: Global, count: u32, bytes: &[u8]) -> Result<Vec<u8>, Memory>
+/// The data of the packets of bytes that passed the tests, one after another, in this room, whose
+/// content is lost.
+fn data_of(room: Vec<u8>, count: u32, bytes: &[u8]) -> Result<Vec<u8>, Memory>
     requires { PassesTests count bytes.now }
     ensures joined { IfOk result (λ all. all.items ≡ data_of (packets_in count bytes.now)) }
     ensures small { IfOk result (λ all. length all.items ≤ 1048576) }
 {
-    // Each packet has a header of 82 bytes beside its data, so this is room for all of it.
-    let room = bytes.len().saturating_sub(count as usize * 82);
-    let mut data = Vec::with_capacity(alloc, room)?;
+    let mut data = room;
+    data.clear();
+    // Each packet has a header beside its data, so this is enough for all of it.
+    data.reserve(bytes.len().saturating_sub(count as usize * PACKET_HEADER))?;
     let mut rest = bytes;
     let mut left = count;
     while left > 0 {
         let snap = u32_at(rest, 12);
-        let (_, behind) = rest.split_at(82);
+        let (_, behind) = rest.split_at(PACKET_HEADER);
         let (captured, _) = behind.split_at(snap as usize);
         data.extend_from_slice(captured)?;
         let (_, tail) = rest.split_at(need(snap) as usize);
         rest = tail;
         left -= 1;
     }
+    data.shrink_to_fit();
     Ok(data)
 }
 

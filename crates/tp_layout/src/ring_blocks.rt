@@ -1,40 +1,25 @@
 //! The blocks of a ring.
-ghost use Rattle.std.specs.Prelude.{◌≡◌, ◌+◌, ◌≤◌, IfErr, IfOk, length, replicate, take};
+ghost use Rattle.std.specs.Prelude.{◌≡◌, ◌+◌, ◌≤◌, IfOk, length, replicate};
 ghost use Rattle.std.specs.Arc.{arc_value};
 ghost use Rattle.ring_model.specs.Offers.{packet_of};
 ghost use Rattle.ring_model.specs.Sizes.{need_of};
 ghost use Rattle.tp_layout.specs.Packets.{IsTyped, packet_text};
 ghost use Rattle.tp_layout.specs.Requests.{IsShape, first_of};
-ghost use Rattle.tp_layout.specs.Rows.{number_at};
-ghost use Rattle.tp_layout.specs.BlockWrites.{IsWritable, closed, open_header, put, zero_block};
+ghost use Rattle.tp_layout.specs.BlockWrites.{IsWritable, bytes_or_zeros, closed, open_header, put};
+ghost use Rattle.tp_layout.specs.BlockWrites.{zero_block};
 ghost use Rattle.tp_layout.specs.declared.requests.RingRequest.{RingRequest};
 
 mod block_writers;
 
 use crate::block_headers::{put_closing, put_empty};
-use crate::fields::u32_at;
 use crate::packet_fields::put_packet;
-use crate::{Closing, LazyBytes, Shape, a_shape_is_sound, zeros};
+use crate::{Closing, LazyBytes, Shape, zeros};
 pub use block_writers::BlockWriter;
 use frame_view::Memory;
 use ring_model::Offer;
 use std::alloc::Global;
 use std::marker::Model;
 use std::sync::Arc;
-
-/// The bytes of a packet's header and link address, which come before its data.
-const PACKET_HEADER: usize = 82;
-
-/// The text of a block, in the memory that was the block's.
-#[derive(Drop)]
-pub(crate) struct DenseText {
-    /// The place of its first packet.
-    pub(crate) first: u32,
-    /// How many packets it has.
-    pub(crate) count: u32,
-    /// Its bytes.
-    pub(crate) bytes: Vec<u8>,
-}
 
 /// One block of a ring. Contracts see it as its shape and its bytes.
 #[derive(Debug, Drop)]
@@ -67,32 +52,11 @@ impl Block {
         self.bytes.as_slice()
     }
 
-    /// The text that the block begins with, in the block's own memory, if its packets' data are at
-    /// least half of the block; otherwise the block comes back.
-    pub(crate) fn into_dense_text(self) -> Result<DenseText, Block>
-        ensures first { IfOk result (λ text. text.first ≡ first_of self.shape) }
-        ensures count { IfOk result (λ text. text.count ≡ number_at 4 12 self.bytes) }
-        ensures bytes { IfOk result (λ text.
-            text.bytes.items ≡ take (number_at 4 20 self.bytes) self.bytes) }
-        ensures back { IfErr result (λ block. block ≡ self) }
-        ensures sound { IsShape self.shape }
+    /// The bytes that were written, in their own memory: all of them, or none at all.
+    pub(crate) fn into_written(self) -> Vec<u8>
+        ensures { bytes_or_zeros self.shape.block_size result.items ≡ self.bytes }
     {
-        a_shape_is_sound(&self.shape);
-        let bytes = self.bytes.as_slice();
-        let count = u32_at(bytes, 12);
-        let end = u32_at(bytes, 20) as usize;
-        let data = end.saturating_sub(count as usize * PACKET_HEADER);
-        if self.bytes.written.is_empty() || data < bytes.len() / 2 {
-            return Err(self);
-        }
-        let Block { shape, bytes } = self;
-        let mut bytes = bytes.into_written();
-        bytes.truncate(end);
-        Ok(DenseText {
-            first: shape.first(),
-            count,
-            bytes,
-        })
+        self.bytes.into_written()
     }
 
     /// The shape of the ring's blocks.

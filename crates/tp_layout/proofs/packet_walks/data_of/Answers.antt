@@ -1,4 +1,4 @@
-use Rattle.std.proofs.Common.{length, ap, arith}
+use Rattle.std.proofs.Common.{◌∙◌, length, ap, arith}
 use Rattle.tp_layout.proofs.Copies.{copied_step, copied_end, data_small}
 use Rattle.tp_layout.proofs.Walks.{first_passes}
 use Rattle.tp_layout.proofs.packet_walks.data_of.Goals as goal
@@ -42,7 +42,8 @@ loop-left-preserved c =
 
 pub returns-clause-joined : goal.returns-clause-joined
 returns-clause-joined c =
-    copied_end c.loop-left.data.items c.loop-left.rest.now _ c.loop-left.left c.loop-left-test.false
+    c.shrink_to_fit.ensures.items
+    ∙ copied_end c.loop-left.data.items c.loop-left.rest.now _ c.loop-left.left c.loop-left-test.false
     c.loop-left.invariant.joined
 
 pub returns-clause-small : goal.returns-clause-small

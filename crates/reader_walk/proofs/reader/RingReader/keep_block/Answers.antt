@@ -9,7 +9,7 @@ invariant_of-self g c =
     let reader = c.self.inside in (
       sound_after g.B.Layout.text_of g.B.Layout.taken_in own reader.shape reader.dumps _ bytes reader.copies c.take_over.new.self
           _ c.take_over.result
-          c.requires.readable.shape_is c.self.view_is c.self.invariant.0 c.take_over.ensures,
+          c.requires.readable.shape_is c.self.view_is c.self.invariant.0 c.take_over.ensures.adds,
       c.self.invariant.1,
     )
 
@@ -21,7 +21,7 @@ returns-clause-read g c =
     let reader = c.self.inside in
     ok_after g.B.Layout.text_of g.B.Layout.taken_in own reader.shape reader.dumps _ bytes reader.copies c.take_over.new.self
     _ c.take_over.result
-    c.requires.readable.shape_is c.self.view_is c.self.invariant.0 c.take_over.ensures
+    c.requires.readable.shape_is c.self.view_is c.self.invariant.0 c.take_over.ensures.adds
 
 pub returns-clause-err : goal.returns-clause-err
 returns-clause-err g c =
@@ -31,4 +31,4 @@ returns-clause-err g c =
     let reader = c.self.inside in
     err_after g.B.Layout.text_of g.B.Layout.taken_in own reader.shape reader.dumps _ bytes reader.copies c.take_over.new.self
     _ c.take_over.result
-    c.requires.readable.shape_is c.self.view_is c.self.invariant.0 c.take_over.ensures
+    c.requires.readable.shape_is c.self.view_is c.self.invariant.0 c.take_over.ensures.adds

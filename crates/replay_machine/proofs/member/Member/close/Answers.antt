@@ -56,7 +56,7 @@ waiting-smaller g c =
     let one = next_read g.R.Unit.Layout.taken_in g.K.Setting.shape g.K.Setting.dumps
     (g.R.ReceiveRing.reads g.K.Setting.shape (noted c.args.self Finished).notes)
     c.waiting.waiting c.take_over.new.ring c.waiting.reader c.take_over.new.self c.waiting.invariant
-    (c.in_ok-take_over.ensures.read c.if-branch.true) c.in_ok-take_over.ensures.hand in
+    (c.in_ok-take_over.ensures.read c.if-branch.true) c.take_over.ensures.hand in
     one.fewer
 
 pub waiting-preserved : goal.waiting-preserved
@@ -64,7 +64,7 @@ waiting-preserved g c =
     let one = next_read g.R.Unit.Layout.taken_in g.K.Setting.shape g.K.Setting.dumps
     (g.R.ReceiveRing.reads g.K.Setting.shape (noted c.args.self Finished).notes)
     c.waiting.waiting c.take_over.new.ring c.waiting.reader c.take_over.new.self c.waiting.invariant
-    (c.in_ok-take_over.ensures.read c.if-branch.true) c.in_ok-take_over.ensures.hand in
+    (c.in_ok-take_over.ensures.read c.if-branch.true) c.take_over.ensures.hand in
     one.has
 
 pub returns : goal.returns
