@@ -16,7 +16,8 @@ use Rattle.block_pool.proofs.Members.{AreMembers, handed_of, passes_of}
 use Rattle.block_pool.proofs.Pooled.{all_pieces, worker_passes, workers_own, empty_for, filled}
 use Rattle.block_pool.proofs.Pooled.{members_are, outputs_are, pieces_fit, tables_full, takers_many}
 use Rattle.block_pool.proofs.Pooled.{takers_own}
-use Rattle.block_pool.proofs.Zips.{all_append, zip_long}
+use Rattle.history.proofs.Lists.{all_append}
+use Rattle.block_pool.proofs.Zips.{zip_long}
 use Rattle.cpu_feeders.specs.Runs.{AreTakersOf}
 use Rattle.reader_walk.specs.declared.outputs.Outputs.{Outputs}
 use Rattle.ring_model.specs.declared.notes.Note.{Note}

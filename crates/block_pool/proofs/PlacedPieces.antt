@@ -10,7 +10,8 @@ use Rattle.block_pool.specs.Pieces.{IsPieceOf}
 use Rattle.block_pool.specs.inside.PieceTables.{HasPlaceIn, counts_of, empty_table, put_each, put_one}
 use Rattle.block_pool.specs.declared.pieces.Piece.{Piece}
 use Rattle.block_pool.proofs.Members.{IsPlaced}
-use Rattle.block_pool.proofs.Zips.{at_below, set_at, set_by, zip_at, zip_long, zip_set}
+use Rattle.history.proofs.Lists.{at_below}
+use Rattle.block_pool.proofs.Zips.{set_at, set_by, zip_at, zip_long, zip_set}
 use Rattle.tp_layout.specs.declared.requests.RingRequest.{RingRequest}
 use Rattle.work_queue.specs.declared.works.Work.{Work}
 

@@ -36,17 +36,6 @@ module _ {A B : Type 0} (R : A → B → Type 0) where
   zip_append (x ∷ xs) more (y ∷ ys) later all rest = (all.0, zip_append xs more ys later all.1 rest)
 
 module _ {A : Type 0} where
-  -- a place that has an item
-  pub at_below : (xs : List A) (i : ℕ) (x : A) → get_elem? xs i ≡ some x → i < length xs
-  at_below [] i x at = absurd (some-ne-none x (sym at))
-  at_below (y ∷ xs) zero x at = omega arith
-  at_below (y ∷ xs) (suc i) x at = let rest = at_below xs i x at in omega (arith, rest)
-
-  pub at_get : (xs : List A) (i : ℕ) (x d : A) → get_elem? xs i ≡ some x → get_or xs i d ≡ x
-  at_get [] i x d at = absurd (some-ne-none x (sym at))
-  at_get (y ∷ xs) zero x d at = some-injective y x at
-  at_get (y ∷ xs) (suc i) x d at = at_get xs i x d at
-
   pub set_at : (xs : List A) (i : ℕ) (x d : A) → i < length xs → get_or (set xs i x) i d ≡ x
   set_at [] i x d below = absurd (omega (arith, below))
   set_at (y ∷ xs) zero x d below = refl
@@ -59,15 +48,6 @@ module _ {A : Type 0} where
   set_by (y ∷ xs) (suc i) zero x d other = refl
   set_by (y ∷ xs) (suc i) (suc j) x d other = set_by xs i j x d (λ e. other (ap suc e))
 
-  pub all_append : (P : A → Type 0) (xs ys : List A) → AllByRecursion P xs → AllByRecursion P ys → AllByRecursion P (xs ++ ys)
-  all_append P [] ys all more = more
-  all_append P (x ∷ xs) ys all more = (all.0, all_append P xs ys all.1 more)
-
   pub all_each : (P Q : A → Type 0) (xs : List A) → ((x : A) → P x → Q x) → AllByRecursion P xs → AllByRecursion Q xs
   all_each P Q [] each all = tt
   all_each P Q (x ∷ xs) each all = (each x all.0, all_each P Q xs each all.1)
-
--- what holds of each item except the last, and of the last
-pub all_but : {A : Type 0} (P : A → Type 0) (xs : List A) (x : A) → AllByRecursion P (xs ++ x ∷ []) → AllByRecursion P xs × P x
-all_but P [] x all = (tt, all.0)
-all_but P (y ∷ xs) x all = let rest = all_but P xs x all.1 in ((all.0, rest.0), rest.1)

@@ -4,6 +4,7 @@ use Rattle.std.proofs.Common.{subst, arith}
 use Rattle.std.specs.Prelude.{map, replicate}
 use Rattle.std.specs.List.{AllByRecursion, AllZip}
 use Rattle.std.proofs.lemmas.List.{length-map, length-replicate}
+use Rattle.history.proofs.Lists.{all_append}
 use Rattle.capture_reports.specs.Timers.{AreTimed}
 use Rattle.member_turns.specs.Entries.{table_numbers}
 use Rattle.member_turns.specs.Seats.{Lock, Seat}
@@ -40,11 +41,6 @@ pub at_place : {A : Type 0} (P : A → Type 0) (xs : List A) (i : ℕ) (d : A) �
 at_place P [] i d all within = absurd (omega (arith, within))
 at_place P (x ∷ xs) zero d all within = all.0
 at_place P (x ∷ xs) (suc i) d all within = at_place P xs i d all.1 (omega (arith, within))
-
-pub all_append : {A : Type 0} (P : A → Type 0) (xs ys : List A) → AllByRecursion P xs → AllByRecursion P ys
-    → AllByRecursion P (xs ++ ys)
-all_append P [] ys left right = right
-all_append P (x ∷ xs) ys left right = (left.0, all_append P xs ys left.1 right)
 
 all_mapped : {A B : Type 0} (P : B → Type 0) (f : A → B) (xs : List A) → AllByRecursion (λ (x : A). P (f x)) xs
     → AllByRecursion P (map f xs)

@@ -37,7 +37,8 @@ use Rattle.cpu_feeders.specs.declared.timer.Timer.{Timer}
 use Rattle.cpu_feeders.specs.declared.walker.Walker.{Walker}
 use Rattle.cpu_feeders.specs.declared.worker.Worker.{Worker}
 use Rattle.cpu_feeders.proofs.AllClosed as closed
-use Rattle.cpu_feeders.proofs.AtEnd.{all_append, all_at_end, all_back, all_handed_in, columns_of, row_is, rows_of}
+use Rattle.history.proofs.Lists.{all_append}
+use Rattle.cpu_feeders.proofs.AtEnd.{all_at_end, all_back, all_handed_in, columns_of, row_is, rows_of}
 use Rattle.cpu_feeders.proofs.FedFeeders as fed
 use Rattle.cpu_feeders.proofs.MemberSeatLists.{items_at}
 use Rattle.cpu_feeders.proofs.WorkerOrder as order

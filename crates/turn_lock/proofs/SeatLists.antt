@@ -3,7 +3,6 @@ use Rattle.std.proofs.Common.{◌≡◌, ℕ, zero, suc, ◌+◌, ◌<◌, List,
 use Rattle.std.proofs.Common.{append-nil, sym, refl, ap, ◌∙◌, arith}
 use Rattle.std.specs.List.{AllByRecursion}
 use Rattle.std.proofs.Math.Seq.{take-length}
-pub use Rattle.history.proofs.Lists.{all_but}
 use Rattle.turn_lock.specs.Seats.{LockValue, SeatValue, fresh_seat, fresh_seats}
 
 module _ {E B : Type 0} where

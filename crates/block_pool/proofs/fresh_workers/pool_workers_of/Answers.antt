@@ -4,7 +4,7 @@ use Rattle.cpu_feeders.proofs.OneMore.{all_more, next_all, next_item}
 use Rattle.ticket_dealer.specs.Seats.{IsFreshOf, SeatValue}
 use Rattle.block_pool.specs.Workers.{IsFreshWorker, IsFreshPassOf}
 use Rattle.block_pool.specs.declared.workers.PoolWorker.{PoolWorker}
-use Rattle.block_pool.proofs.Zips.{all_but}
+use Rattle.history.proofs.Lists.{all_but}
 use Rattle.block_pool.proofs.fresh_workers.pool_workers_of.Goals as goal
 
 pub loop-pass-preserved : goal.loop-pass-preserved

@@ -3,7 +3,7 @@ use Rattle.std.specs.Prelude.{map, option_map}
 use Rattle.std.specs.List.{AllByRecursion}
 use Rattle.tap_outside.specs.Seen.{SourceSeen}
 use Rattle.ticket_dealer.specs.Seats.{SeatValue}
-use Rattle.turn_lock.proofs.SeatLists.{all_but}
+use Rattle.history.proofs.Lists.{all_but}
 use Rattle.cpu_feeders.specs.Feeds.{IsFreshSeat}
 use Rattle.cpu_feeders.specs.inside.FreshWorkers.{first_feed, first_feeds}
 use Rattle.cpu_feeders.specs.declared.feeder.Feeder.{Feeder}

@@ -1,7 +1,7 @@
 use Rattle.std.proofs.Common.{◌≡◌, ◌∙◌, false, List, length, refl, sym, subst, arith}
 use Rattle.std.specs.List.{AllByRecursion}
 use Rattle.ticket_dealer.specs.Seats.{IsFreshOf, SeatValue}
-use Rattle.turn_lock.proofs.SeatLists.{all_but}
+use Rattle.history.proofs.Lists.{all_but}
 use Rattle.cpu_feeders.specs.declared.walker.Walker.{Walker}
 use Rattle.cpu_feeders.proofs.FreshThreads.{end_in, taker_in}
 use Rattle.cpu_feeders.proofs.Numbered.{numbered_more}
