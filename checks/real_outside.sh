@@ -232,7 +232,11 @@ cpu 1 frames 0 arrivals 0 end fault'
     for command in 'replay conf sched' 'capture conf'; do
         fresh
         head -c 300 in.pcap >cut.pcap
-        roomy cut.pcap && printf 'cpu none\nmembers 2\n' >>conf
+        roomy cut.pcap
+        # shellcheck disable=SC2086
+        expect "$command: a cut capture" 4 - $command
+        [ "$(head -n 1 "$said")" = "${cut%%$'\n'*}" ] || wrong "$command: a cut capture: printed '$(cat "$said")'"
+        rm out.* && printf 'cpu none\nmembers 2\n' >>conf
         # shellcheck disable=SC2086
         expect "$command: a cut capture, and one that is not there" 5 - $command
         [ "$(head -n 2 "$said")" = "$cut" ] || wrong "$command: two faults: printed '$(cat "$said")'"

@@ -1,7 +1,10 @@
-//! The program.
+//! The program: its words, real files, standard output, and a status.
 #![tactic(auto)]
 
-use ringtap_main::run_program;
+mod arguments;
+mod program;
+
+use program::run_program;
 use std::process::ExitCode;
 
 fn main(rt: HostRuntime) -> ExitCode {

@@ -1,6 +1,6 @@
 use Rattle.std.proofs.Common.{◌≤◌, length, IsUtf8}
-use Rattle.ringtap_main.proofs.Buffers.{one_more}
-use Rattle.ringtap_main.proofs.arguments.words.Goals as goal
+use Rattle.ringtap.proofs.Buffers.{one_more}
+use Rattle.ringtap.proofs.arguments.words.Goals as goal
 
 pub loop-index-preserved : goal.loop-index-preserved
 loop-index-preserved g c =

@@ -1,9 +1,5 @@
-//! What the program does: its words, real files, standard output, and a status.
-#![tactic(auto)]
-
-mod arguments;
-
-use arguments::words;
+//! What the program does.
+use crate::arguments::words;
 use cpu_feeders::NoGate;
 use std::env::Env;
 use std::mem;
@@ -16,7 +12,7 @@ use tap_outside::{DiskStore, StdSink, write_whole};
 
 /// Carries out the command given by the program's arguments, over real files and standard output,
 /// and returns the program's exit status. A `capture` starts threads and may wait for them.
-pub fn run_program<R>(rt: &R) -> ExitCode
+pub(crate) fn run_program<R>(rt: &R) -> ExitCode
 where
     R: Env + Files + Print + AllocGlobal + Threads + Wait + Sync,
     R::File: Send,

@@ -1,5 +1,5 @@
 use Rattle.std.proofs.Common.{◌≤◌, length, All, IsUtf8}
-use Rattle.ringtap_main.proofs.arguments.words.Given as goal
+use Rattle.ringtap.proofs.arguments.words.Given as goal
 
 abbrev pub invariant-loop-index : goal.invariant-loop-index
 invariant-loop-index g l =
