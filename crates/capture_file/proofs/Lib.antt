@@ -19,3 +19,4 @@ pub mod ReadBack
 pub mod Joined
 pub mod KeptBytes
 mod RecordBytes
+mod Pieces

@@ -24,4 +24,4 @@ pub use laws::{
     frames_are_few, frames_are_numbered, frames_fit, frames_only_grow, output_reads_back,
     too_many_bytes_are_damage,
 };
-pub use output::pcap_text;
+pub use output::{PcapPieces, pcap_text};

@@ -35,6 +35,8 @@ mod pcapng_pieces;
 #[cfg(test)]
 mod real_files;
 #[cfg(test)]
+mod saved_pieces;
+#[cfg(test)]
 mod spellings;
 #[cfg(test)]
 mod standard_output;

@@ -4,15 +4,14 @@ ghost use Rattle.std.specs.Io.{ReadsAtMost};
 ghost use Rattle.tap_outside.specs.Seen.{meant_store, unread_file};
 ghost use Rattle.tap_outside.specs.Records.{given_by};
 
-use crate::{Failed, History, OutError, Source, Store};
+use crate::pieces::PIECE;
+use crate::{Failed, History, OutError, Pieces, Source, Store};
+use std::alloc::Global;
 use std::fs::OpenFile;
 use std::io::{ErrorKind, Read, Write};
 use std::marker::Model;
 use std::rt::Files;
 use std::{fs, io};
-
-/// The most bytes that one read of a real file gives.
-const PIECE: usize = 65_536;
 
 /// How often a read or a write is tried if a signal interrupts it.
 pub(crate) const TRIES: u32 = 16;
@@ -159,6 +158,19 @@ where
         saved
     }
 
+    fn save_pieces<P: Pieces + Drop>(
+        &mut self,
+        alloc: Global,
+        name: &[u8],
+        pieces: P,
+    ) -> Result<(), OutError> {
+        let saved = write_pieces(self.rt, alloc, name, pieces);
+        if let Err(OutError::Failed) = saved {
+            self.save_faults = self.save_faults.saturating_add(1);
+        }
+        saved
+    }
+
     ghost untold_reads = { λ store name untold. refl };
 
     ghost untold_saves = { λ store name untold. refl };
@@ -187,5 +199,23 @@ fn write_file<R: Files>(rt: &R, name: &[u8], bytes: &[u8]) -> Result<(), OutErro
     let path = str::from_utf8(name).map_err(|_| Failed)?;
     let mut file = fs::create(rt, path)?;
     file.write_all(bytes).map_err(|_| Failed)?;
+    Ok(())
+}
+
+/// Writes a file with the bytes that are left of some pieces, as `write_file` does.
+fn write_pieces<R: Files, P: Pieces + Drop>(
+    rt: &R,
+    alloc: Global,
+    name: &[u8],
+    pieces: P,
+) -> Result<(), OutError> {
+    let path = str::from_utf8(name).map_err(|_| Failed)?;
+    let mut pieces = pieces;
+    let mut buffer = Vec::with_capacity(alloc, PIECE)?;
+    let mut file = fs::create(rt, path)?;
+    while pieces.append_to(&mut buffer) {
+        file.write_all(buffer.as_slice()).map_err(|_| Failed)?;
+        buffer.clear();
+    }
     Ok(())
 }

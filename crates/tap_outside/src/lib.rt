@@ -1,6 +1,6 @@
 //! The outside as the program sees it: sources that are read, sinks that are written and stores of
-//! named files, each with a count of its faults; in memory, on disk, and standard output; and the
-//! words of a command, which may be names.
+//! named files, each with a count of its faults; in memory, on disk, and standard output; what is
+//! saved a piece at a time; and the words of a command, which may be names.
 #![tactic(auto)]
 
 mod causes;
@@ -10,6 +10,7 @@ mod memory_files;
 mod memory_sink;
 mod memory_source;
 mod memory_store;
+mod pieces;
 mod sink;
 mod source;
 mod standard_output;
@@ -23,6 +24,7 @@ pub use history::History;
 pub use memory_sink::MemSink;
 pub use memory_source::MemSource;
 pub use memory_store::MemStore;
+pub use pieces::{Pieces, gathered};
 pub use sink::{Sink, write_whole};
 pub use source::Source;
 pub use standard_output::StdSink;

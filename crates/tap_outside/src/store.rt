@@ -5,7 +5,9 @@ ghost use Rattle.tap_outside.specs.Outcomes.{OnFailed, OnMemory};
 ghost use Rattle.tap_outside.specs.Contents.{GivesFile, HoldsFile};
 ghost use Rattle.tap_outside.specs.Seen.{OnlyReads, OnlySaves, StoreSeen};
 
-use crate::{OutError, Source};
+use crate::pieces::gathered;
+use crate::{OutError, Pieces, Source};
+use std::alloc::Global;
 
 /// Files by their names. Contracts see what each name holds, if the store reports it, which names
 /// are meant for reading and which for saving, the bytes that each source gave which was closed,
@@ -65,6 +67,29 @@ pub trait Store {
         ensures cause { OnFailed result
             (Rose (seen self.old).save_faults (seen self.new).save_faults) }
         ensures memory { OnMemory result (seen self.new ≡ seen self.old) };
+
+    /// Makes a name hold the bytes that are left of some pieces, as `save` does with bytes that are
+    /// in memory. Unless a store says otherwise it gathers them and saves them; real files are
+    /// written a piece at a time.
+    fn save_pieces<P: Pieces + Drop>(
+        &mut self,
+        alloc: Global,
+        name: &[u8],
+        pieces: P,
+    ) -> Result<(), OutError>
+        requires { IsTrue ((seen self.old).to_save name.now) }
+        ensures saved { OnOk result (HoldsFile (seen self.new).held name.now (P.left pieces)) }
+
+        ensures only { OnlySaves (seen self.old) (seen self.new) name.now }
+        ensures faultless { OnOk result (IsTrue (seen self.old).exact →
+            (seen self.new).save_faults ≡ (seen self.old).save_faults) }
+        ensures cause { OnFailed result
+            (Rose (seen self.old).save_faults (seen self.new).save_faults) }
+        ensures memory { OnMemory result (seen self.new ≡ seen self.old) }
+    {
+        let bytes = gathered(alloc, pieces)?;
+        self.save(name, bytes.as_slice())
+    }
 
     // If the store doesn't report what it holds, every name is meant for both.
     ghost untold_reads: { (store : Self) (name : List ℕ) →

@@ -5,7 +5,7 @@ ghost use Rattle.tap_outside.specs.Seen.{OnlySaves};
 ghost use Rattle.tap_saving.specs.Files.{CanBeOutput};
 ghost use Rattle.tap_saving.specs.inside.Plans.{IsTried};
 
-use capture_file::pcap_text;
+use capture_file::PcapPieces;
 use frame_view::{Memory, Packets};
 use std::alloc::Global;
 use std::marker::Model;
@@ -14,7 +14,7 @@ use tap_outside::{OutError, Store};
 /// Where the bytes of a file come from.
 #[derive(Clone, Copy)]
 pub(crate) enum Content<'a> {
-    /// From packets, of which a capture file is made when it is saved.
+    /// From packets, of which a capture file is made while it is saved.
     Packets(&'a Packets),
     /// These are its bytes.
     Bytes(&'a [u8]),
@@ -71,27 +71,16 @@ impl<'a> PlannedFile<'a> {
         ensures tried { IfOk result (IsTried (S.seen store.old) (S.seen store.new) self.now) }
         ensures memory { OnErr result (S.seen store.new ≡ S.seen store.old) }
     {
-        match self.content {
-            Content::Bytes(bytes) => save_bytes(store, &self.name, bytes),
+        let saved = match self.content {
+            Content::Bytes(bytes) => store.save(&self.name, bytes),
             Content::Packets(packets) => {
-                let text = pcap_text(alloc, packets)?;
-                save_bytes(store, &self.name, text.as_slice())
+                store.save_pieces(alloc, &self.name, PcapPieces::new(packets))
             }
+        };
+        match saved {
+            Ok(()) => Ok(true),
+            Err(OutError::Failed) => Ok(false),
+            Err(OutError::Memory) => Err(Memory),
         }
-    }
-}
-
-/// Saves bytes under a name, and returns whether that succeeded.
-fn save_bytes<S: Store>(store: &mut S, name: &[u8], bytes: &[u8]) -> Result<bool, Memory>
-    requires { IsTrue ((S.seen store.old).to_save name.now) }
-    ensures only { OnlySaves (S.seen store.old) (S.seen store.new) name.now }
-    ensures tried { IfOk result (IsTried (S.seen store.old) (S.seen store.new)
-        (record { name = name.now; bytes = bytes.now })) }
-    ensures memory { OnErr result (S.seen store.new ≡ S.seen store.old) }
-{
-    match store.save(name, bytes) {
-        Ok(()) => Ok(true),
-        Err(OutError::Failed) => Ok(false),
-        Err(OutError::Memory) => Err(Memory),
     }
 }

@@ -1,0 +1,38 @@
+//! Bytes that are made a piece at a time.
+ghost use Rattle.std.specs.Prelude.{◌≡◌, ◌<◌, ◌≤◌, ◌+◌, ◌++◌, length, true, false, IfOk};
+ghost use Rattle.std.specs.Prelude.{IsTrue, ℕ, List, []};
+ghost use Rattle.std.specs.Vec.{vec_capacity};
+
+use frame_view::Memory;
+use std::alloc::Global;
+
+/// The most bytes of a piece: this project's own choice.
+pub(crate) const PIECE: usize = 65_536;
+
+/// Bytes that are made as they are taken, from the front, so that all of them need not be in memory
+/// at once. Contracts see those that are left.
+pub trait Pieces {
+    ghost left: { Self → List ℕ };
+
+    /// Appends the next bytes to a buffer, no more than it has room for, and returns whether there
+    /// were any: it returns false only at the end. The buffer has room for 64 bytes at least. It
+    /// takes no memory.
+    fn append_to(&mut self, buffer: &mut Vec<u8>) -> bool
+        requires { length buffer.old.items + 64 ≤ vec_capacity buffer.old }
+        ensures moved { buffer.new.items ++ left self.new ≡ buffer.old.items ++ left self.old }
+        ensures room { vec_capacity buffer.old ≤ vec_capacity buffer.new }
+        ensures some { IsTrue result → length (left self.new) < length (left self.old) }
+        ensures end { result ≡ false → left self.new ≡ [] };
+}
+
+/// All bytes that are left.
+pub fn gathered<P: Pieces + Drop>(alloc: Global, pieces: P) -> Result<Vec<u8>, Memory>
+    ensures { IfOk result (λ bytes. bytes.items ≡ P.left pieces) }
+{
+    let mut pieces = pieces;
+    let mut bytes = Vec::with_capacity(alloc, PIECE)?;
+    while pieces.append_to(&mut bytes) {
+        bytes.reserve(PIECE)?;
+    }
+    Ok(bytes)
+}
