@@ -44,7 +44,7 @@ pub fn tally_notes(alloc: Global, tov: u64, notes: &Notes) -> Result<Tally, Memo
     let mut ledger = Ledger::new(tov);
     for note in notes.as_slice() {
         tally.take(note, ledger.stats())?;
-        ledger = ledger.after(note, tov);
+        ledger.add(note, tov);
     }
     tally.totals = plus(tally.totals, ledger.stats());
     Ok(tally)
@@ -152,109 +152,104 @@ impl Ledger {
         }
     }
 
-    /// The state after one more note.
-    fn after(self, note: &Note, tov: u64) -> Ledger
-        requires kept { self.kept < 2 ^ 63 }
-        requires dropped { self.dropped < 2 ^ 63 }
-        requires freezes { self.freezes < 2 ^ 63 }
-        ensures { AtEachSize tov (λ size. (state : State) → Counts self state
-            → Counts result (after size state note.now)) }
+    /// Takes one more note: the state is then that after it.
+    fn add(&mut self, note: &Note, tov: u64)
+        requires kept { self.old.kept < 2 ^ 63 }
+        requires dropped { self.old.dropped < 2 ^ 63 }
+        requires freezes { self.old.freezes < 2 ^ 63 }
+        ensures { AtEachSize tov (λ size. (state : State) → Counts self.old state
+            → Counts self.new (after size state note.now)) }
     {
         match note {
-            Note::Kept { found, .. } => self.kept(*found, tov),
-            Note::Dropped { .. } => self.dropped(),
-            Note::Ticked { ms, found } => self.ticked(*ms, *found, tov),
-            Note::Refused { .. } => self,
-            Note::Counted => Ledger {
-                kept: 0,
-                dropped: 0,
-                freezes: 0,
-                ..self
-            },
-            Note::Finished => Ledger {
-                open: Open::Frozen,
-                ..self
-            },
+            Note::Kept { found, .. } => self.keep(*found, tov),
+            Note::Dropped { .. } => self.drop_packet(),
+            Note::Ticked { ms, found } => self.tick(*ms, *found, tov),
+            Note::Refused { .. } => {}
+            Note::Counted => self.start_anew(),
+            Note::Finished => self.open = Open::Frozen,
         }
     }
 
-    /// The state after a packet was kept: it went into the open block if none was asked for,
-    /// otherwise into the next.
-    fn kept(self, found: Found, tov: u64) -> Ledger
-        requires { self.kept < 2 ^ 63 }
-        ensures { AtEachSize tov (λ size. (state : State) (offer : Offer) → Counts self state
-            → Counts result (after size state (notes.Kept offer found))) }
+    /// Counts a packet that was kept: it went into the open block if none was asked for, otherwise
+    /// into the next.
+    fn keep(&mut self, found: Found, tov: u64)
+        requires { self.old.kept < 2 ^ 63 }
+        ensures { AtEachSize tov (λ size. (state : State) (offer : Offer) → Counts self.old state
+            → Counts self.new (after size state (notes.Kept offer found))) }
     {
-        let kept = self.kept + 1;
+        self.kept += 1;
         match found {
-            Found::NotAsked => Ledger {
-                open: with_packet(self.open),
-                kept,
-                ..self
-            },
-            Found::Free | Found::Held(_) => Ledger {
-                open: Open::Filled,
-                deadline: u128::from(self.clock) + u128::from(tov),
-                kept,
-                ..self
-            },
+            Found::NotAsked => self.open = with_packet(self.open),
+            Found::Free | Found::Held(_) => {
+                self.open = Open::Filled;
+                self.deadline = u128::from(self.clock) + u128::from(tov);
+            }
         }
     }
 
-    /// The state after a packet was dropped: an open block is retired, and the ring freezes.
-    fn dropped(self) -> Ledger
-        requires dropped { self.dropped < 2 ^ 63 }
-        requires freezes { self.freezes < 2 ^ 63 }
-        ensures { (state : State) → Counts self state → Counts result (after_drop state state.now) }
+    /// Counts a packet that was dropped: an open block is retired, and the ring freezes.
+    fn drop_packet(&mut self)
+        requires dropped { self.old.dropped < 2 ^ 63 }
+        requires freezes { self.old.freezes < 2 ^ 63 }
+        ensures { (state : State) → Counts self.old state
+            → Counts self.new (after_drop state state.now) }
     {
-        let freezes = match self.open {
-            Open::Frozen => self.freezes,
-            Open::Empty | Open::Filled => self.freezes + 1,
-        };
-        Ledger {
-            open: Open::Frozen,
-            dropped: self.dropped + 1,
-            freezes,
-            ..self
+        self.dropped += 1;
+        match self.open {
+            Open::Frozen => {}
+            Open::Empty | Open::Filled => self.freeze(),
         }
     }
 
-    /// The state after a tick.
-    fn ticked(self, ms: u64, found: Found, tov: u64) -> Ledger
-        requires { self.freezes < 2 ^ 63 }
-        ensures { AtEachSize tov (λ size. (state : State) → Counts self state
-            → Counts result (after size state (notes.Ticked ms found))) }
+    /// Takes a tick.
+    fn tick(&mut self, ms: u64, found: Found, tov: u64)
+        requires { self.old.freezes < 2 ^ 63 }
+        ensures { AtEachSize tov (λ size. (state : State) → Counts self.old state
+            → Counts self.new (after size state (notes.Ticked ms found))) }
     {
         let moment = u128::from(ms);
         if moment < self.deadline {
-            return Ledger { clock: ms, ..self };
+            self.clock = ms;
+            return;
         }
-        Ledger {
-            clock: ms,
-            deadline: moment + u128::from(tov),
-            ..self.timed_out(found)
+        self.time_out(found);
+        self.clock = ms;
+        self.deadline = moment + u128::from(tov);
+    }
+
+    /// Takes a block's time-out: an open block with packets is retired, and the ring freezes where
+    /// the next block isn't free.
+    fn time_out(&mut self, found: Found)
+        requires { self.old.freezes < 2 ^ 63 }
+        ensures { (state : State) → Counts self.old state
+            → Counts self.new (after_due state state.now found) }
+    {
+        match (self.open, found) {
+            (Open::Empty, _) => {}
+            (_, Found::Free) => self.open = Open::Empty,
+            (Open::Frozen, _) => {}
+            (Open::Filled, _) => self.freeze(),
         }
     }
 
-    /// The state after a block's time-out: an open block with packets is retired, and the ring
-    /// freezes where the next block isn't free.
-    fn timed_out(self, found: Found) -> Ledger
-        requires { self.freezes < 2 ^ 63 }
-        ensures { (state : State) → Counts self state
-            → Counts result (after_due state state.now found) }
+    /// Closes the open block with none after it, and counts the freeze.
+    fn freeze(&mut self)
+        requires { self.old.freezes < 2 ^ 63 }
+        ensures { self.new ≡ record self.old {
+          «open» = Open.Frozen;
+          freezes = self.old.freezes + 1;
+        } }
     {
-        match (self.open, found) {
-            (Open::Empty, _) => self,
-            (_, Found::Free) => Ledger {
-                open: Open::Empty,
-                ..self
-            },
-            (Open::Frozen, _) => self,
-            (Open::Filled, _) => Ledger {
-                open: Open::Frozen,
-                freezes: self.freezes + 1,
-                ..self
-            },
-        }
+        self.open = Open::Frozen;
+        self.freezes += 1;
+    }
+
+    /// Takes statistics: the counts start anew.
+    fn start_anew(&mut self)
+        ensures { self.new ≡ record self.old { kept = 0; dropped = 0; freezes = 0 } }
+    {
+        self.kept = 0;
+        self.dropped = 0;
+        self.freezes = 0;
     }
 }

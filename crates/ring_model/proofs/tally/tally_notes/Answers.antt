@@ -14,17 +14,17 @@ loop-note-preserved c = record {
   goes = λ room blocks.
       goes_next (record { room = room; blocks = blocks; tov = c.args.tov }) c.as_slice-note-items.result.now
       c.loop-note.note-index c.note-item.result
-      c.loop-note.tally.counts c.take.new.self.counts c.stats.result c.loop-note.ledger c.after-ledger.result (omega arith)
+      c.loop-note.tally.counts c.take.new.self.counts c.stats.result c.loop-note.ledger c.add.new.self (omega arith)
       c.note-item.is
-      c.stats.ensures c.in_ok-take.ensures.counts (c.after-ledger.ensures room blocks) (c.loop-note.invariant.goes room blocks);
+      c.stats.ensures c.in_ok-take.ensures.counts (c.add.ensures room blocks) (c.loop-note.invariant.goes room blocks);
   sums =
       let before = c.loop-note.invariant.goes 0 0 in
       sums_next c.loop-note.note-index c.note-item.result c.loop-note.tally.counts c.take.new.self.counts c.stats.result
       c.loop-note.tally.totals
-      c.take.new.self.totals c.loop-note.ledger c.after-ledger.result c.stats.ensures c.in_ok-take.ensures.counts
+      c.take.new.self.totals c.loop-note.ledger c.add.new.self c.stats.ensures c.in_ok-take.ensures.counts
       c.in_ok-take.ensures.totals
       (record { room = 0; blocks = 0; tov = c.args.tov }) before.state before.is
-      (c.after-ledger.ensures 0 0 before.state before.is)
+      (c.add.ensures 0 0 before.state before.is)
       c.loop-note.invariant.sums;
 }
 
