@@ -1,8 +1,8 @@
 //! The two ends of a flow, in an order that both directions share, and their hash.
-ghost use Rattle.std.specs.Prelude.{◌≡◌, ◌+◌, ◌≤◌, ◌++◌, length, drop};
+ghost use Rattle.std.specs.Prelude.{◌≡◌, ◌≤◌, drop, if◌then◌else◌};
 ghost use Rattle.std.specs.Int.{to_be_bytes, w32, w128};
 ghost use Rattle.flow_hash.specs.Toeplitz.{hash_of};
-ghost use Rattle.flow_hash.specs.FlowHash.{flow_input, way_back, ends_input, port_bytes, ordered};
+ghost use Rattle.flow_hash.specs.FlowHash.{flow_input, way_back, ends_input, port_bytes};
 ghost use Rattle.flow_hash.specs.FlowHash.{source_first};
 
 use crate::Key;
@@ -31,13 +31,10 @@ fn hash_v4(key: &Key, part: &V4Part) -> u32
         ≡ hash_of key.now (ends_input w32 part.now.from part.now.to part.now.ports) }
 {
     let first = source_first(u128::from(part.from), u128::from(part.to), part.ports);
-    hash_ends(
-        key,
-        first,
-        &part.from.to_be_bytes(),
-        &part.to.to_be_bytes(),
-        part.ports,
-    )
+    let (low, high) = in_order(first, part.from, part.to);
+    hash_from(key, 0, &low.to_be_bytes())
+        ^ hash_from(key, 4, &high.to_be_bytes())
+        ^ hash_ports(key, 8, first, part.ports)
 }
 
 /// The hash of the two ends of an IPv6 packet.
@@ -46,13 +43,10 @@ fn hash_v6(key: &Key, part: &V6Part) -> u32
         ≡ hash_of key.now (ends_input w128 part.now.from part.now.to part.now.ports) }
 {
     let first = source_first(part.from, part.to, part.ports);
-    hash_ends(
-        key,
-        first,
-        &part.from.to_be_bytes(),
-        &part.to.to_be_bytes(),
-        part.ports,
-    )
+    let (low, high) = in_order(first, part.from, part.to);
+    hash_from(key, 0, &low.to_be_bytes())
+        ^ hash_from(key, 16, &high.to_be_bytes())
+        ^ hash_ports(key, 32, first, part.ports)
 }
 
 /// Whether the source is the smaller end.
@@ -65,13 +59,11 @@ fn source_first(from: u128, to: u128, ports: Option<(u16, u16)>) -> bool
     }
 }
 
-/// The hash of two addresses and the ports, the source's first or the other way round.
-#[tactic(auto, using(crate::proofs::BitLists::pieces))]
-fn hash_ends(key: &Key, first: bool, from: &[u8], to: &[u8], ports: Option<(u16, u16)>) -> u32
-    requires { length from.now + length to.now ≤ 32 }
-    ensures { result ≡ hash_of key.now (ordered first from.now to.now ++ port_bytes first ports) }
+/// Two values, in their order or the other way round.
+fn in_order<T: Copy>(first: bool, one: T, other: T) -> (T, T)
+    ensures { result ≡ (if first then (one, other) else (other, one)) }
 {
-    hash_pair(key, 0, first, from, to) ^ hash_ports(key, from.len() + to.len(), first, ports)
+    if first { (one, other) } else { (other, one) }
 }
 
 /// The hash of the ports, if there are any, which begin at this byte of the input.
@@ -82,34 +74,9 @@ fn hash_ports(key: &Key, at: usize, first: bool, ports: Option<(u16, u16)>) -> u
 {
     match ports {
         None => 0,
-        Some((sport, dport)) => hash_pair(
-            key,
-            at,
-            first,
-            &sport.to_be_bytes(),
-            &dport.to_be_bytes(),
-        ),
+        Some((sport, dport)) => {
+            let (low, high) = in_order(first, sport, dport);
+            hash_from(key, at, &low.to_be_bytes()) ^ hash_from(key, at + 2, &high.to_be_bytes())
+        }
     }
-}
-
-/// The hash of two strings, in their order or the other way round, which begin at this byte of the
-/// input.
-fn hash_pair(key: &Key, at: usize, first: bool, a: &[u8], b: &[u8]) -> u32
-    requires { at + length a.now + length b.now ≤ 36 }
-    ensures { result ≡ hash_of (drop at key.now) (ordered first a.now b.now) }
-{
-    if first {
-        hash_both(key, at, a, b)
-    } else {
-        hash_both(key, at, b, a)
-    }
-}
-
-/// The hash of two strings, one after another, which begin at this byte of the input.
-#[tactic(auto, using(crate::proofs::BitLists::pieces))]
-fn hash_both(key: &Key, at: usize, a: &[u8], b: &[u8]) -> u32
-    requires { at + length a.now + length b.now ≤ 36 }
-    ensures { result ≡ hash_of (drop at key.now) (a.now ++ b.now) }
-{
-    hash_from(key, at, a) ^ hash_from(key, at + a.len(), b)
 }

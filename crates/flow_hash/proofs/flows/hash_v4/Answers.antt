@@ -1,4 +1,4 @@
-use Rattle.std.proofs.Common.{◌≡◌, ◌∙◌}
+use Rattle.std.proofs.Common.{◌≡◌, ap, length}
 use Rattle.std.specs.Int.{w32}
 use Rattle.flow_hash.specs.FlowHash.{source_first}
 use Rattle.flow_hash.proofs.BothWays.{hash_of_ends}
@@ -8,5 +8,6 @@ pub returns : goal.returns
 returns c =
     let part = c.args.part.now in
     let first : c.source_first-first.result ≡ source_first part.from part.to part.ports = cc in
-    c.hash_ends.ensures
-    ∙ hash_of_ends c.args.key.now w32 part.from part.to part.ports _ _ _ first c.to_be_bytes.ensures c.to_be_bytes-2.ensures
+    hash_of_ends c.args.key.now w32 part.from part.to 4 part.ports _ c.in_order-low.result _ _ _ _ _ first
+    c.in_order-low.ensures c.to_be_bytes.ensures c.to_be_bytes-2.ensures (ap length c.to_be_bytes.ensures) (ap length c.to_be_bytes-2.ensures)
+    c.hash_from.ensures c.hash_from-2.ensures c.hash_ports.ensures
