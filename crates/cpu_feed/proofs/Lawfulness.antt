@@ -5,7 +5,7 @@ use Rattle.frame_view.specs.declared.frames.Frame.{Frame}
 use Rattle.fanout_group.specs.Paths.{IsPath, IsPathBehind, Path}
 use Rattle.fanout_group.specs.Rules.{Rules}
 use Rattle.cpu_feed.specs.CpuFeeds.{Feeding, HasRead, IsAllOfCpu, Pops, behind, frames_in}
-use Rattle.cpu_feed.specs.inside.Steps.{FeedsLawfully}
+use Rattle.cpu_feed.specs.Lawful.{IsLawful}
 
 take_suc : (n : ℕ) (xs ys : List Frame) (x : Frame) → Some x ≡ slice_get xs n
     → take (suc n) (xs ++ ys) ≡ take n (xs ++ ys) ++ x ∷ []
@@ -16,6 +16,12 @@ take_suc (suc n) (y ∷ xs) ys x e = ap (λ (zs : List Frame). y ∷ zs) (take_s
 take_next : (n : ℕ) (xs ys : List Frame) (x : Frame) → Some x ≡ slice_get xs n
     → take (n + 1) (xs ++ ys) ≡ take n (xs ++ ys) ++ x ∷ []
 take_next n xs ys x e = let one : n + 1 ≡ suc n = omega arith in ap (λ k. take k (xs ++ ys)) one ∙ take_suc n xs ys x e
+
+-- one more frame was fed: the log is lawful over it too, or this arrival is still to be logged
+abbrev pub FeedsLawfully : Feeding → Option Frame → Feeding → Type 0
+FeedsLawfully old arrival new =
+    (rules : Rules) (all : List Frame) → IsAllOfCpu all new → IsLawful rules all old
+    → IsPathBehind rules (take new.fed all) arrival new.path
 
 -- what the receive path says of a frame
 abbrev pub Arrives : Frame → Option Frame → Path → Path → Type 0

@@ -63,10 +63,12 @@ HasNoFault None None = Unit {0}
 HasNoFault (Some first) (Some now) = now.faults ≡ first.faults
 HasNoFault first now = ⊥
 
--- the frames of a piece were lost, because memory ran out: the source hadn't ended, and no read had
--- failed
-pub record IsStuck (first now : Option SourceSeen) (ended : Option CpuEnd) : Type 0 where
+-- the frames of a piece were lost, because memory ran out: the source hadn't ended, no read had
+-- failed, and every frame before the piece was fed
+pub record IsStuck (number : ℕ) (first now : Option SourceSeen) (bytes : List ℕ)
+    (ended : Option CpuEnd) (fed : ℕ) : Type 0 where
   pub unended : ended ≡ None
+  pub all : length (frames_of number bytes) ≤ fed
   pub faultless : HasNoFault first now
 
 -- what is known of the source, whether a piece was lost or not
@@ -74,7 +76,7 @@ pub record IsKnown (stuck : Bool) (number : ℕ) (first now : Option SourceSeen)
     (ended : Option CpuEnd) (fed given : ℕ) (decoder : DecoderValue)
     (waiting : List Frame) : Type 0 where
   pub whole : stuck ≡ false → IsFed number first now bytes ended fed given decoder waiting
-  pub lost : stuck ≡ true → IsStuck first now ended
+  pub lost : stuck ≡ true → IsStuck number first now bytes ended fed
 
 -- ---- the steps
 

@@ -3,4 +3,3 @@ pub mod Fed
 pub mod Feeds
 pub mod Lawful
 pub mod ClosedCpus
-pub mod inside

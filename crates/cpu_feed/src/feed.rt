@@ -5,28 +5,20 @@
 //! A frame that is fed moves out of the queue into the receive path. The source has ended once a
 //! read gave no byte or failed, or the bytes showed damage; the frames before that are still fed.
 ghost use Rattle.std.specs.Prelude.{◌≡◌, ◌≢◌, ◌+◌, ◌<◌, ◌≤◌, ℕ, List, None, Some, false, true, []};
-ghost use Rattle.std.specs.Prelude.{◌∷◌, ◌++◌, length, option_map, IfOk, IfSome, IsSome, OnErr};
-ghost use Rattle.std.specs.Prelude.{OnOk};
-ghost use Rattle.capture_file.specs.Laws.{IsCaptured};
+ghost use Rattle.std.specs.Prelude.{length, option_map, IfOk, IsSome, OnErr, OnOk};
 ghost use Rattle.capture_file.specs.declared.cpu_end.CpuEnd.TheVariants.{Fault};
 ghost use Rattle.cpu_feed.specs.CpuFeeds.{Closes, FailsFed, HasNotFailed, HasRead, IsAllOfCpu};
-ghost use Rattle.cpu_feed.specs.CpuFeeds.{IsReady, IsSameCpu, Pops, ReadsWhereNoneWaits, Takes};
-ghost use Rattle.cpu_feed.specs.CpuFeeds.{frames_in, unread};
+ghost use Rattle.cpu_feed.specs.CpuFeeds.{IsReady, Pops, ReadsWhereNoneWaits, frames_in, unread};
 ghost use Rattle.cpu_feed.specs.Feeds.{Feeds, GivesUp};
 ghost use Rattle.cpu_feed.specs.Lawful.{IsLawful};
-ghost use Rattle.cpu_feed.specs.declared.fed.Fed.TheVariants.{End};
-ghost use Rattle.cpu_feed.specs.inside.Steps.{FeedsLawfully, GoesOn, arrival_of};
-ghost use Rattle.fanout_group.specs.Arrivals.{HasPlaceOf, IsArrival, arrival_at, held_behind};
-ghost use Rattle.fanout_group.specs.Deliveries.{IsGivenUp, Received, TakesAllOf};
+ghost use Rattle.fanout_group.specs.Deliveries.{TakesAllOf};
 ghost use Rattle.fanout_group.specs.Desks.{TakesTheSame};
 ghost use Rattle.fanout_group.specs.Judgements.{AgreesAt, Lens, rules_by};
 ghost use Rattle.fanout_group.specs.Lenses.{lens_of};
-ghost use Rattle.fanout_group.specs.Paths.{IsPath, IsPathBehind, IsPathTo, first_path};
-ghost use Rattle.fanout_group.specs.Plans.{has_defrag};
+ghost use Rattle.fanout_group.specs.Paths.{IsPath, first_path};
 ghost use Rattle.fanout_group.specs.Rules.{Rules};
 ghost use Rattle.frame_view.specs.declared.frames.Frame.{Frame};
 
-use crate::fed::Fed;
 use capture_file::{
     CpuEnd, Decoder, an_empty_capture_has_no_frames, damage_is_the_end, frames_are_captured,
     frames_are_few, frames_are_numbered, too_many_bytes_are_damage,
@@ -179,8 +171,24 @@ impl<S: Source> CpuFeed<S> {
         Ok(())
     }
 
-    /// Reads on until a frame waits or the source has ended.
+    /// Reads on, if no frame waits, until one does or the source has ended.
     fn fill(&mut self, alloc: Global, buffer: &mut Buffer) -> Result<(), Memory>
+        ensures read { OnOk result (HasRead self.old self.new) }
+        ensures ready { OnOk result (IsReady self.new) }
+        ensures failed { OnOk result (self.old.ended ≢ Some Fault → FailsFed self.new) }
+        ensures waits { OnOk result (ReadsWhereNoneWaits self.old self.new) }
+        ensures err { OnErr result (self.new.ended ≡ None) }
+    {
+        if self.stuck || self.waiting.is_empty() {
+            return self.read_on(alloc, buffer);
+        }
+        Ok(())
+    }
+
+    /// Reads on until a frame waits or the source has ended. It isn't inlined into `fill`, so that
+    /// a frame that waits costs no call.
+    #[inline(never)]
+    fn read_on(&mut self, alloc: Global, buffer: &mut Buffer) -> Result<(), Memory>
         ensures read { OnOk result (HasRead self.old self.new) }
         ensures ready { OnOk result (IsReady self.new) }
         ensures failed { OnOk result (self.old.ended ≢ Some Fault → FailsFed self.new) }
@@ -193,102 +201,21 @@ impl<S: Source> CpuFeed<S> {
         Ok(())
     }
 
-    /// Takes the next frame that waits.
-    fn pop(&mut self) -> Result<Option<Frame>, Memory>
-        ensures pops { IfOk result (λ frame. Pops self.old frame self.new) }
-        ensures err { OnErr result (self.new.ended ≡ None) }
+    /// Takes the next frame that waits, if one does; none does once a piece was lost.
+    fn pop(&mut self) -> Option<Frame>
+        ensures { Pops self.old result self.new }
     {
         frames_are_few();
         if self.stuck {
-            return Err(Memory);
+            return None;
         }
         match self.waiting.pop_front() {
             Some(frame) => {
                 self.fed += 1;
-                Ok(Some(frame))
+                Some(frame)
             }
-            None => Ok(None),
+            None => None,
         }
-    }
-
-    /// Passes a frame through the receive path, and returns what arrives with it.
-    fn arrive(&mut self, frame: Frame) -> Result<Option<Frame>, Memory>
-        requires bare { frame.tag ≡ None }
-        requires captured { IsCaptured frame }
-        ensures arrival { IfOk result (λ arrival.
-            arrival ≡ arrival_at (has_defrag self.old.path.shape.flags) self.old.path.held frame) }
-        ensures held { OnOk result (self.new ≡ record self.old {
-          path = record self.old.path {
-            held = held_behind (has_defrag self.old.path.shape.flags) self.old.path.held frame;
-          };
-        }) }
-        ensures ended { self.new.ended ≡ self.old.ended }
-        ensures sound { IfOk result (λ arrival. IfSome arrival IsArrival) }
-        ensures place { IfOk result (λ arrival. IfSome arrival (HasPlaceOf frame)) }
-        ensures lawful { IfOk result (λ arrival. (rules : Rules) (frames : List Frame)
-            → IsPath rules frames self.old.path
-            → IsPathBehind rules (frames ++ frame ∷ []) arrival self.new.path) }
-    {
-        self.path.arrive(frame)
-    }
-
-    /// Feeds the next frame, if there is one, and returns what arrives with it. Reads on if no
-    /// frame waits.
-    fn next(&mut self, alloc: Global, buffer: &mut Buffer) -> Result<Fed, Memory>
-        ensures same { OnOk result (IsSameCpu self.old self.new) }
-        ensures takes { IfOk result (λ fed. (all : List Frame)
-            → IsAllOfCpu all self.new → Takes all self.old (arrival_of fed) self.new) }
-        ensures arrival { IfOk result (λ fed. IfSome (arrival_of fed) IsArrival) }
-        ensures place { IfOk result (λ fed.
-            IfSome (arrival_of fed) (λ arrival. arrival.cpu ≡ self.old.number)) }
-        ensures more { IfOk result (λ fed. GoesOn self.old fed self.new) }
-        ensures idle { IfOk result (λ fed. fed ≡ End → self.new.fed ≡ self.old.fed) }
-        ensures waits { OnOk result (ReadsWhereNoneWaits self.old self.new) }
-        ensures lawful { IfOk result (λ fed. FeedsLawfully self.old (arrival_of fed) self.new) }
-        ensures reads { IfOk result (λ fed.
-            IfSome (arrival_of fed) (λ _. HasNotFailed self.old self.new)) }
-        ensures err { OnErr result (HasNotFailed self.old self.new) }
-    {
-        frames_are_few();
-        frames_are_numbered();
-        frames_are_captured();
-        self.fill(alloc, buffer)?;
-        match self.pop()? {
-            Some(frame) => match self.arrive(frame)? {
-                Some(arrival) => Ok(Fed::Arrival(arrival)),
-                None => Ok(Fed::Nothing),
-            },
-            None => Ok(Fed::End),
-        }
-    }
-
-    /// Receives an arrival of the CPU, as `ReceivePath::receive` says.
-    fn receive<G: Group>(
-        &mut self,
-        alloc: Global,
-        rules: &ArrivalRules,
-        group: &mut G,
-        arrival: Frame,
-    ) -> Result<(), Memory>
-        requires arrival { IsArrival arrival }
-        requires block { 82 < rules.now.room }
-        requires may_draw { G.may_draw group.old }
-        requires room { G.room group.old 9 }
-        requires takes { TakesAllOf (G.takes group.old) self.old.path.shape.members rules.now.room
-            arrival.cpu }
-        ensures received { OnOk result (Received G.made G.drew rules.now arrival
-            self.old.path self.new.path group.old group.new) }
-        ensures rest { self.new ≡ record self.old { path = self.new.path } }
-        ensures lawful { OnOk result ((lens : Lens) (frames : List Frame)
-            → AgreesAt arrival.cpu lens (lens_of rules.now)
-            → IsPathTo (rules_by self.old.path.shape lens) frames arrival self.old.path
-            → IsPath (rules_by self.old.path.shape lens) frames self.new.path) }
-        ensures room { OnOk result ((n : ℕ) → G.room group.old (n + 9) → G.room group.new n) }
-        ensures given_up { OnErr result (IsGivenUp G.made G.drew rules.now arrival self.old.path
-            group.old group.new) }
-        ensures same { TakesTheSame (G.takes group.old) (G.takes group.new) }
-    {
-        self.path.receive(alloc, rules, group, arrival)
     }
 
     /// Feeds the next frame to a group, if there is one; returns whether there was. What arrives
@@ -320,13 +247,19 @@ impl<S: Source> CpuFeed<S> {
         ensures given_up { OnErr result (GivesUp G.made G.drew rules.now group.old group.new) }
         ensures same { TakesTheSame (G.takes group.old) (G.takes group.new) }
     {
-        match self.next(alloc, buffer)? {
-            Fed::Arrival(arrival) => {
-                self.receive(alloc, rules, group, arrival)?;
-                Ok(true)
-            }
-            Fed::Nothing => Ok(true),
-            Fed::End => Ok(false),
+        frames_are_few();
+        frames_are_numbered();
+        frames_are_captured();
+        self.fill(alloc, buffer)?;
+        match self.pop() {
+            Some(frame) => match self.path.arrive(frame)? {
+                Some(arrival) => {
+                    self.path.receive(alloc, rules, group, arrival)?;
+                    Ok(true)
+                }
+                None => Ok(true),
+            },
+            None => Ok(false),
         }
     }
 

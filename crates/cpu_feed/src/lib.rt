@@ -4,7 +4,6 @@
 
 mod arrival_rules;
 mod closed_cpus;
-mod fed;
 mod feed;
 
 pub use arrival_rules::rules_at;

@@ -2,7 +2,7 @@ use Rattle.std.proofs.Common.{Some}
 use Rattle.std.specs.Prelude.{◌≡◌, ◌≢◌}
 use Rattle.capture_file.specs.declared.cpu_end.CpuEnd.TheVariants.{Fault}
 use Rattle.cpu_feed.specs.CpuFeeds.{FailsFed, HasRead, Waits, unread}
-use Rattle.cpu_feed.proofs.feed.CpuFeed.fill.Given as goal
+use Rattle.cpu_feed.proofs.feed.CpuFeed.read_on.Given as goal
 
 abbrev pub invariant-reading : goal.invariant-reading
 invariant-reading g l = record {

@@ -1,7 +1,7 @@
 use Rattle.std.proofs.Common.{refl, subst, sym, arith}
 use Rattle.cpu_feed.specs.CpuFeeds.{Waits}
 use Rattle.cpu_feed.proofs.Piecewise.{reads_none, reads_on}
-use Rattle.cpu_feed.proofs.feed.CpuFeed.fill.Goals as goal
+use Rattle.cpu_feed.proofs.feed.CpuFeed.read_on.Goals as goal
 
 pub reading-init : goal.reading-init
 reading-init g c = record {

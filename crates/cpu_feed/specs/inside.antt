@@ -1,2 +1,0 @@
--- What only this crate's own proofs and private functions cite.
-pub mod Steps
