@@ -7,7 +7,6 @@ ghost use Rattle.capture_reading.specs.Sources.{end_by};
 
 use capture_file::{CaptureError, CpuEnd, Decoder};
 use frame_view::{Frames, Memory};
-use std::alloc::Global;
 
 /// What is decoded from a piece.
 #[derive(Debug, Drop)]
@@ -54,15 +53,17 @@ pub(crate) fn feed(
 }
 
 /// Feeds a piece to a decoder: the frames that are whole now, and the damage that the capture shows
-/// by now. The error is out of memory: the decoder is then as before, so the piece may be fed
-/// again.
-pub fn decode(alloc: Global, decoder: &mut Decoder, piece: &[u8]) -> Result<Decoded, Memory>
+/// by now. The frames take the memory of a list that isn't wanted any more. The error is out of
+/// memory: the decoder is then as before, so the piece may be fed again.
+pub fn decode(room: Frames, decoder: &mut Decoder, piece: &[u8]) -> Result<Decoded, Memory>
     ensures decodes { IfOk result (λ decoded. (cpu : ℕ) (fed : List ℕ)
         → Represents cpu decoder.old fed
         → Decodes cpu fed piece.now decoder.new decoded.frames decoded.damage) }
     ensures same { OnErr result (decoder.new ≡ decoder.old) }
 {
-    let mut frames = Frames::new(alloc);
+    let mut room = room.into_vec();
+    room.clear();
+    let mut frames = Frames::from_vec(room);
     let damage = feed(decoder, piece, &mut frames)?;
     Ok(Decoded { frames, damage })
 }

@@ -25,11 +25,12 @@ use capture_file::{
 };
 use capture_reading::{Buffer, decode, end_at, ended_by};
 use fanout_group::{ArrivalRules, CpuLog, Group, Plan, ReceivePath};
-use frame_view::{Frame, Memory};
+use frame_view::{Frame, Frames, Memory};
 use history::History;
 use std::alloc::Global;
 use std::collections::VecDeque;
 use std::marker::Model;
+use std::mem;
 use std::snapshot::Snapshot;
 use tap_outside::Source;
 
@@ -160,7 +161,9 @@ impl<S: Source> CpuFeed<S> {
             self.ended = Some(end_at(&self.decoder));
             return Ok(());
         }
-        let Ok(decoded) = decode(alloc, &mut self.decoder, piece) else {
+        let fed = mem::replace(&mut self.waiting, VecDeque::new(alloc));
+        let room = Frames::from_vec(Vec::from(fed));
+        let Ok(decoded) = decode(room, &mut self.decoder, piece) else {
             self.stuck = true;
             return Err(Memory);
         };

@@ -15,7 +15,7 @@ invariant_of-self-2 g c = known _ _ _ _ _ _ _ _ _ _ c.if-self.false (
     (c.self.invariant.whole c.if-self.false)
     (ap (option_map {T = g.row.S.Denot} {U = SourceSeen} g.S.Source.seen) c.in-Some.is) unended none
     c.in-Ok.ensures.ok c.piece-piece.ensures.piece c.piece-piece.ensures.small c.extend.ensures
-    c.in-Ok-decode.ensures.decodes (c.from.ensures.0 ∙ c.into_vec.ensures) c.ended_by-self-inside.ensures)
+    c.in-Ok-decode.ensures.decodes (c.from-2.ensures.0 ∙ c.into_vec.ensures) c.ended_by-self-inside.ensures)
 
 pub returns-clause-read : goal.returns-clause-read
 returns-clause-read g c =
