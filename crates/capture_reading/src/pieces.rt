@@ -7,6 +7,7 @@ ghost use Rattle.capture_reading.specs.Sources.{end_by};
 
 use capture_file::{CaptureError, CpuEnd, Decoder};
 use frame_view::{Frames, Memory};
+use std::alloc::{AllocError, Global};
 
 /// What is decoded from a piece.
 #[derive(Debug, Drop)]
@@ -53,19 +54,33 @@ pub(crate) fn feed(
 }
 
 /// Feeds a piece to a decoder: the frames that are whole now, and the damage that the capture shows
-/// by now. The frames take the memory of a list that isn't wanted any more. The error is out of
-/// memory: the decoder is then as before, so the piece may be fed again.
-pub fn decode(room: Frames, decoder: &mut Decoder, piece: &[u8]) -> Result<Decoded, Memory>
+/// by now. The list of frames takes the memory of one that isn't wanted any more. The error is out
+/// of memory: the decoder is then as before, so the piece may be fed again.
+pub fn decode(
+    alloc: Global,
+    room: Frames,
+    decoder: &mut Decoder,
+    piece: &[u8],
+) -> Result<Decoded, Memory>
     ensures decodes { IfOk result (λ decoded. (cpu : ℕ) (fed : List ℕ)
         → Represents cpu decoder.old fed
         → Decodes cpu fed piece.now decoder.new decoded.frames decoded.damage) }
     ensures same { OnErr result (decoder.new ≡ decoder.old) }
 {
+    grow_heap(alloc, piece.len());
     let mut room = room.into_vec();
     room.clear();
     let mut frames = Frames::from_vec(room);
     let damage = feed(decoder, piece, &mut frames)?;
     Ok(Decoded { frames, damage })
+}
+
+/// Asks for this many bytes and gives them back at once. The heap of a thread grows by what is asked
+/// for, each time by a call of the system that all threads wait for; so it grows by what the frames
+/// of a piece take, and not by a page for every few of them.
+fn grow_heap(alloc: Global, bytes: usize) {
+    let room: Result<Vec<u8>, AllocError> = Vec::with_capacity(alloc, bytes);
+    drop(room);
 }
 
 /// Whether an answer says nothing about the capture.

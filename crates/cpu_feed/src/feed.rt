@@ -163,7 +163,7 @@ impl<S: Source> CpuFeed<S> {
         }
         let fed = mem::replace(&mut self.waiting, VecDeque::new(alloc));
         let room = Frames::from_vec(Vec::from(fed));
-        let Ok(decoded) = decode(room, &mut self.decoder, piece) else {
+        let Ok(decoded) = decode(alloc, room, &mut self.decoder, piece) else {
             self.stuck = true;
             return Err(Memory);
         };
