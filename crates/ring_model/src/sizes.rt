@@ -11,7 +11,7 @@ pub fn need(snap: u32) -> u32
     requires { snap ≤ 1048576 }
     ensures { result ≡ need_of snap }
 {
-    (HEADER + snap).div_ceil(8) * 8
+    (HEADER + snap + 7) / 8 * 8
 }
 
 /// Whether a deadline is reached at a moment, both in milliseconds.
