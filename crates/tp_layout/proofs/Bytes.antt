@@ -4,7 +4,7 @@ use Rattle.std.proofs.Common.{drop, refl, sym, ap, ◌∙◌, inl, inr, arith}
 use Rattle.std.specs.Prelude.{slice_index, All}
 use Rattle.std.specs.Int.{byte_at, bytes_low_first}
 use Rattle.std.proofs.lemmas.Bool.{cases_lt}
-use Rattle.std.proofs.lemmas.List.{get_or-drop, get_or-take, get_or_past, get_or_default, length-take}
+use Rattle.std.proofs.lemmas.List.{get_or-drop, get_or-take, get_or_past, get_or_default, length-drop, length-take}
 use Rattle.std.proofs.Math.Nat.{div-div-eq-div-mul, pow-succ'}
 use Rattle.byteorder.specs.Endian.{little_number, little_bytes, big_bytes}
 use Rattle.byteorder.specs.Numbers.{little_from-cons, little_from-lt}
@@ -97,6 +97,24 @@ six_bytes (a ∷ b ∷ c ∷ d ∷ []) six = absurd (omega arith)
 six_bytes (a ∷ b ∷ c ∷ d ∷ e ∷ []) six = absurd (omega arith)
 six_bytes (a ∷ b ∷ c ∷ d ∷ e ∷ f ∷ []) six = refl
 six_bytes (a ∷ b ∷ c ∷ d ∷ e ∷ f ∷ g ∷ bytes) six = absurd (omega arith)
+
+-- the six bytes from a place, one by one
+pub six_from : (at : ℕ) (bytes : List ℕ) → at + 6 ≤ length bytes → take 6 (drop at bytes) ≡ address_of at bytes
+six_from at bytes within =
+    let part = take 6 (drop at bytes) in
+    let byte : (i : ℕ) → i < 6 → slice_index part i ≡ slice_index bytes (at + i) =
+    λ i less. get_or-take 6 (drop at bytes) i 0 less ∙ get_or-drop at bytes i 0 in
+    let zero_is : slice_index part 0 ≡ slice_index bytes at =
+    byte 0 (omega arith) ∙ ap (λ (k : ℕ). slice_index bytes k) (add-zero at) in
+    six_bytes part (omega (arith, length-take 6 (drop at bytes), length-drop at bytes))
+    ∙ rw (
+      zero_is,
+      byte 1 (omega arith),
+      byte 2 (omega arith),
+      byte 3 (omega arith),
+      byte 4 (omega arith),
+      byte 5 (omega arith),
+    ) refl
 
 pub all_bytes : (bytes : List ℕ) → IsBytes bytes → All (λ byte. byte < 256) bytes
 all_bytes bytes h k d less = rw (get_or_default bytes k d 0 less) (h k)

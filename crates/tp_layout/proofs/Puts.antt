@@ -1,8 +1,8 @@
 -- Bytes written over others, one piece after another.
 use Rattle.std.proofs.Common.{◌≡◌, ℕ, zero, suc, ◌+◌, ◌-◌, ◌≤◌, List, [], ◌∷◌, ◌++◌, length, take, drop, replicate, refl, sym}
 use Rattle.std.proofs.Common.{ap, ◌∙◌, arith, append_assoc}
-use Rattle.std.proofs.lemmas.List.{length-append, length-take, length-drop, length-replicate, take_at, drop_at, drop-drop}
-use Rattle.std.proofs.lemmas.List.{take-append-drop}
+use Rattle.std.proofs.lemmas.List.{length-append, length-take, length-drop, length-replicate, take_at, take-take, take-append-le, drop_at, drop-drop}
+use Rattle.std.proofs.lemmas.List.{take-append-drop, replicate-append-replicate}
 use Rattle.byteorder.specs.Endian.{little_bytes}
 use Rattle.byteorder.specs.Numbers.{length-bytes_low_first}
 use Rattle.frame_view.specs.declared.frames.Packet.{Packet}
@@ -122,24 +122,60 @@ length-packet_text next packet =
 regroup : (a b c d e f : List ℕ) → ((((a ++ b) ++ c) ++ d) ++ e) ++ f ≡ (a ++ (b ++ (c ++ d))) ++ (e ++ f)
 regroup a b c d e f = simp append_assoc refl
 
--- the six pieces of a packet
-pub packet_put : (at next : ℕ) (packet : Packet) (old one two three four five six : List ℕ)
+-- n zeros over which bytes were written, except the last k
+zeros_after : (at q n k : ℕ) (text old : List ℕ) → at ≤ q → k ≤ n → q + n ≡ at + length text + k → q + n ≤ length old
+    → put at text (put q (replicate n 0) old) ≡ put at (text ++ replicate k 0) old
+zeros_after at q n k text old order few sum fits =
+    let front = take q old in
+    let rest = drop (q + length (replicate {A = ℕ} n 0)) old in
+    let m = n - k in
+    let size : length front ≡ q = omega (arith, length-take q old) in
+    let left : take at (front ++ (replicate n 0 ++ rest)) ≡ take at old =
+    take-append-le at front (replicate n 0 ++ rest) (omega (arith, size)) ∙ take-take at q old order in
+    let place : at + length text ≡ q + m = omega arith in
+    let whole : n ≡ m + k = omega arith in
+    let split : replicate {A = ℕ} n 0 ≡ replicate m 0 ++ replicate k 0 =
+    ap (λ (i : ℕ). replicate {A = ℕ} i 0) whole ∙ sym (replicate-append-replicate m k 0) in
+    let back : drop (at + length text) (front ++ (replicate n 0 ++ rest)) ≡ replicate k 0 ++ rest =
+    ap (λ (i : ℕ). drop i (front ++ (replicate n 0 ++ rest))) place
+    ∙ sym (drop-drop m q (front ++ (replicate n 0 ++ rest)))
+    ∙ ap (drop m) (drop_at front (replicate n 0 ++ rest) q size
+    ∙ ap (λ (xs : List ℕ). xs ++ rest) split
+    ∙ append_assoc (replicate m 0) (replicate k 0) rest)
+    ∙ drop_at (replicate m 0) (replicate k 0 ++ rest) m (length-replicate {A = ℕ} m 0) in
+    let end : q + length (replicate {A = ℕ} n 0) ≡ at + length (text ++ replicate k 0) =
+    omega (
+      arith,
+      length-append text (replicate k 0),
+      length-replicate {A = ℕ} n 0,
+      length-replicate {A = ℕ} k 0,
+    ) in
+    rw (left, back)
+    (ap (λ (i : ℕ). take at old ++ (text ++ (replicate k 0 ++ drop i old))) end
+    ∙ ap (λ (xs : List ℕ). take at old ++ xs)
+    (sym (append_assoc text (replicate k 0) (drop (at + length (text ++ replicate k 0)) old))))
+
+-- the six pieces of a packet, of which the zeros at its end are the first
+pub packet_put : (at next : ℕ) (packet : Packet) (old zeros one two three four five : List ℕ)
     → at + need_of_packet packet ≤ length old
-    → one ≡ put at (bytes_of (header_rows next packet)) old
+    → zeros ≡ put (at + (need_of_packet packet - 8)) (replicate 8 0) old
+    → one ≡ put at (bytes_of (header_rows next packet)) zeros
     → two ≡ put (at + 40) (replicate 8 0) one
     → three ≡ put (at + 48) (bytes_of (address_rows packet)) two
     → four ≡ put (at + 66) (replicate 16 0) three
     → five ≡ put (at + 82) packet.bytes four
-    → six ≡ put (at + 82 + length packet.bytes) (replicate (need_of_packet packet - (82 + length packet.bytes)) 0) five
-    → six ≡ put at (packet_text next packet) old
+    → five ≡ put at (packet_text next packet) old
 unfolding packet_text
-packet_put at next packet old one two three four five six fits e1 e2 e3 e4 e5 e6 =
+packet_put at next packet old zeros one two three four five fits e0 e1 e2 e3 e4 e5 =
     let header = bytes_of (header_rows next packet) in
     let address = bytes_of (address_rows packet) in
     let snap = length packet.bytes in
-    let padding : List ℕ = replicate (need_of_packet packet - (82 + snap)) 0 in
+    let need = need_of_packet packet in
+    let padding : List ℕ = replicate (need - (82 + snap)) 0 in
     let eight : List ℕ = replicate 8 0 in
     let sixteen : List ℕ = replicate 16 0 in
+    let h0 : length zeros ≡ length old =
+    ap length e0 ∙ length-put (at + (need - 8)) eight old (omega arith) in
     let h1 = length-header next packet in
     let h2 : length (header ++ eight) ≡ 48 = omega (arith, h1, length-append header eight) in
     let h3 : length ((header ++ eight) ++ address) ≡ 66 =
@@ -148,13 +184,16 @@ packet_put at next packet old one two three four five six fits e1 e2 e3 e4 e5 e6
     omega (arith, h3, length-append ((header ++ eight) ++ address) sixteen) in
     let h5 : length ((((header ++ eight) ++ address) ++ sixteen) ++ packet.bytes) ≡ 82 + snap =
     omega (arith, h4, length-append (((header ++ eight) ++ address) ++ sixteen) packet.bytes) in
-    let h6 : length padding ≡ need_of_packet packet - (82 + snap) = length-replicate (need_of_packet packet - (82 + snap)) _ in
-    let p0 = nothing at old (omega arith) in
-    let p1 = piece p0 at header (omega arith) (omega (arith, h1)) e1 in
-    let p2 = piece p1 (at + 40) eight (omega (arith, h1)) (omega (arith, h1)) e2 in
-    let p3 = piece p2 (at + 48) address (omega (arith, h2)) (omega (arith, h2, length-address packet)) e3 in
-    let p4 = piece p3 (at + 66) sixteen (omega (arith, h3)) (omega (arith, h3)) e4 in
-    let p5 = piece p4 (at + 82) packet.bytes (omega (arith, h4)) (omega (arith, h4)) e5 in
-    let p6 = piece p5 (at + 82 + snap) padding (omega (arith, h5)) (omega (arith, h5, h6)) e6 in
-    all p6 (bytes_of (packet_rows next packet) ++ (packet.bytes ++ bytes_of (padding_rows snap)))
-    (rw (packet_rows-bytes, bytes_of-zeros) (regroup header eight address sixteen packet.bytes padding))
+    let p0 = nothing at zeros (omega (arith, h0)) in
+    let p1 = piece p0 at header (omega arith) (omega (arith, h0, h1)) e1 in
+    let p2 = piece p1 (at + 40) eight (omega (arith, h1)) (omega (arith, h0, h1)) e2 in
+    let p3 = piece p2 (at + 48) address (omega (arith, h2)) (omega (arith, h0, h2, length-address packet)) e3 in
+    let p4 = piece p3 (at + 66) sixteen (omega (arith, h3)) (omega (arith, h0, h3)) e4 in
+    let p5 = piece p4 (at + 82) packet.bytes (omega (arith, h4)) (omega (arith, h0, h4)) e5 in
+    let text = (((header ++ eight) ++ address) ++ sixteen) ++ packet.bytes in
+    p5.is
+    ∙ ap (put at text) e0
+    ∙ zeros_after at (at + (need - 8)) 8 (need - (82 + snap)) text old (omega arith) (omega arith) (omega (arith, h5)) (omega arith)
+    ∙ ap (λ (xs : List ℕ). put at xs old)
+    (regroup header eight address sixteen packet.bytes padding
+    ∙ sym (rw (packet_rows-bytes, bytes_of-zeros) refl))

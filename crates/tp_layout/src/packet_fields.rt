@@ -1,12 +1,15 @@
 //! A packet written into a block, field by field.
-ghost use Rattle.std.specs.Prelude.{◌≡◌, ◌+◌, ◌≤◌, if◌then◌else◌, length};
+ghost use Rattle.std.specs.Prelude.{◌≡◌, ◌+◌, ◌^◌, ◌<◌, ◌≤◌, ℕ, if◌then◌else◌, length};
+ghost use Rattle.std.specs.Prelude.{slice_index};
+ghost use Rattle.frame_view.specs.Headers.{address_of, protocol_of};
+ghost use Rattle.frame_view.specs.declared.frames.Packet.{Packet};
 ghost use Rattle.ring_model.specs.Offers.{packet_of};
 ghost use Rattle.ring_model.specs.Sizes.{need_of};
-ghost use Rattle.tp_layout.specs.Packets.{IsTyped, header_rows, packet_text};
+ghost use Rattle.tp_layout.specs.Packets.{IsTyped, address_rows, header_rows, packet_text};
 ghost use Rattle.tp_layout.specs.Rows.{bytes_of};
 ghost use Rattle.tp_layout.specs.BlockWrites.{HasNumbers, IsWritable, put};
 
-use crate::fields::{put_bytes, put_u16, put_u32, put_zeros};
+use crate::fields::{put_bytes, put_u16, put_u32, put_u64, put_zeros};
 use crate::link_addresses::put_link_address;
 use crate::numbers::{MAC, NET};
 use crate::packet_refs::vlan_fields;
@@ -24,15 +27,34 @@ pub(crate) fn put_packet(bytes: &mut [u8], at: usize, offer: &Offer, fill: bool)
         ≡ put at (packet_text (need_of offer.now.snap) (packet_of fill offer.now)) bytes.old }
     ensures typed { IsTyped (packet_of fill offer.now) }
 {
-    let link = link_header(offer.frame.bytes.as_slice());
+    let frame = offer.frame.bytes.as_slice();
+    let (captured, _) = frame.split_at(offer.snap as usize);
     let need = need(offer.snap);
-    let snap = offer.snap as usize;
+    // The zeros after the data are at most 7 bytes, so these 8 cover them. What comes before them
+    // is written over the others.
+    put_u64(bytes, at + (need as usize - 8), 0);
     put_header(bytes, at, need, offer, fill);
     put_zeros(bytes, at + 40, 8);
-    put_link_address(bytes, at + 48, link.protocol, offer.pkttype, &link.from);
+    put_address(bytes, at + 48, frame, offer.pkttype);
     put_zeros(bytes, at + 66, 16);
-    put_bytes(bytes, at + 82, offer.captured());
-    put_zeros(bytes, at + 82 + snap, need as usize - 82 - snap);
+    put_bytes(bytes, at + 82, captured);
+}
+
+/// Writes the address of the packet of a frame, which is borrowed from the frame.
+fn put_address(bytes: &mut [u8], at: usize, frame: &[u8], pkttype: u8)
+    requires fits { at + 18 ≤ length bytes.old }
+    requires whole { 14 ≤ length frame.now }
+    ensures written { (packet : Packet)
+        → packet.protocol ≡ protocol_of frame.now → packet.pkttype ≡ pkttype
+        → packet.addr ≡ address_of 6 frame.now
+        → bytes.new ≡ put at (bytes_of (address_rows packet)) bytes.old }
+    ensures protocol { protocol_of frame.now < 2 ^ 16 }
+    ensures typed { (i : ℕ) → slice_index (address_of 6 frame.now) i < 256 }
+{
+    let link = link_header(frame);
+    let (_, behind) = frame.split_at(6);
+    let (from, _) = behind.split_at(6);
+    put_link_address(bytes, at, link.protocol, pkttype, from);
 }
 
 /// Writes the fields of `struct tpacket3_hdr`.
