@@ -69,23 +69,38 @@ copied_end copied bytes all count none e =
 
 -- ---- a part of the data
 
--- where packets are left, the first one's data is the next
-pub next_part : (all : List ℕ) (from : ℕ) (packets others : List Packet) (packet : Packet) → drop from all ≡ data_of packets
-    → packets ≡ packet ∷ others
-    → drop from all ≡ packet.bytes ++ data_of others
-next_part all from packets others packet e step = e ∙ (ap data_of step ∙ data_first packet others)
-
-pub part_within : (all part rest : List ℕ) (from : ℕ) → from ≤ length all → drop from all ≡ part ++ rest
+part_within : (all part rest : List ℕ) (from : ℕ) → from ≤ length all → drop from all ≡ part ++ rest
     → from + length part ≤ length all
 part_within all part rest from within e =
     let sum = ap length e in
     omega (arith, sum, length-append part rest, length-drop from all)
 
-pub part_is : (all part rest : List ℕ) (from : ℕ) → drop from all ≡ part ++ rest → take (length part) (drop from all) ≡ part
+part_is : (all part rest : List ℕ) (from : ℕ) → drop from all ≡ part ++ rest → take (length part) (drop from all) ≡ part
 part_is all part rest from e = rw e (take-append_seam part rest)
 
-pub part_rest : (all part rest : List ℕ) (from : ℕ) → drop from all ≡ part ++ rest → drop (from + length part) all ≡ rest
+part_rest : (all part rest : List ℕ) (from : ℕ) → drop from all ≡ part ++ rest → drop (from + length part) all ≡ rest
 part_rest all part rest from e = sym (drop-drop (length part) from all) ∙ rw e (drop-append_seam part rest)
+
+-- what is known of the part that is the data of the first packet left
+pub record FirstPart (left from : ℕ) (rest piece : List ℕ) : Type 0 where
+  pub within : from + number_at 4 12 rest ≤ length piece
+  pub is : take (number_at 4 12 rest) (drop from piece) ≡ take (number_at 4 12 rest) (drop 82 rest)
+  pub others : drop (from + number_at 4 12 rest) piece ≡ data_of (packets_in (left - 1) (drop (need_at rest) rest))
+
+pub first_part : (left from : ℕ) (rest piece : List ℕ) → 0 < left → PassesTests left rest → from ≤ length piece
+    → drop from piece ≡ data_of (packets_in left rest) → FirstPart left from rest piece
+first_part left from rest piece some passes within joined =
+    let first = first_passes left rest some passes in
+    let n = number_at 4 12 rest in
+    let part = take n (drop 82 rest) in
+    let others = data_of (packets_in (left - 1) (drop (need_at rest) rest)) in
+    let size : length part ≡ n = omega (arith, first.snap, length-take n (drop 82 rest), length-drop 82 rest) in
+    let step : drop from piece ≡ part ++ others = joined ∙ data_step left rest some in
+    record {
+      within = omega (arith, size, part_within piece part others from within step);
+      is = ap (λ (k : ℕ). take k (drop from piece)) (sym size) ∙ part_is piece part others from step;
+      others = ap (λ (k : ℕ). drop (from + k) piece) (sym size) ∙ part_rest piece part others from step;
+    }
 
 -- ---- a list with one more item
 

@@ -1,11 +1,14 @@
 //! The packets of a block that passed its tests, one after another.
-ghost use Rattle.std.specs.Prelude.{◌≡◌, ◌≤◌, ◌++◌, length, take, IfOk, OnOk};
+ghost use Rattle.std.specs.Prelude.{◌≡◌, ◌≤◌, ◌++◌, drop, length, take, IfOk, OnOk};
 ghost use Rattle.tp_layout.specs.Faults.{packets_in};
 ghost use Rattle.tp_layout.specs.Checks.{PassesTests};
-ghost use Rattle.tp_layout.specs.Readers.{data_of, seen};
+ghost use Rattle.tp_layout.specs.Packets.{packet_at};
+ghost use Rattle.tp_layout.specs.Readers.{data_of};
+ghost use Rattle.tp_layout.specs.Rows.{number_at};
 
 use crate::fields::u32_at;
-use crate::packet_refs::{PacketRef, packet_at};
+use crate::link_addresses::link_address_at;
+use crate::packet_refs::{PacketRef, packet_at, tag_at};
 use frame_view::{ByteList, Memory, Packet, Piece};
 use ring_model::need;
 use std::alloc::Global;
@@ -86,12 +89,17 @@ impl<'a> PacketWalk<'a> {
         ensures front { take (length into.old.items) into.new.items ≡ into.old.items }
     {
         into.reserve(self.left as usize)?;
+        let mut rest = self.rest;
+        let mut left = self.left;
         let mut from = 0;
-        for packet in self {
-            let count = packet.bytes.len() as u32;
-            let bytes = piece.part(alloc, from, count)?;
-            into.push_reserved(with_bytes(&packet, bytes));
-            from += count;
+        while left > 0 {
+            let snap = u32_at(rest, 12);
+            let bytes = piece.part(alloc, from, snap)?;
+            into.push_reserved(packet_with(rest, bytes));
+            let (_, tail) = rest.split_at(need(snap) as usize);
+            rest = tail;
+            left -= 1;
+            from += snap;
         }
         Ok(())
     }
@@ -123,21 +131,25 @@ fn data_of(room: Vec<u8>, count: u32, bytes: &[u8]) -> Result<Vec<u8>, Memory>
     Ok(data)
 }
 
-/// A packet that was read in place, with these bytes as its data.
-fn with_bytes(packet: &PacketRef<'_>, bytes: ByteList) -> Packet
-    requires { bytes ≡ packet.now.bytes.now }
-    ensures { result ≡ seen packet.now }
+/// The packet at the start of the bytes, whose data is in this list.
+#[tactic(auto, unfolding(crate::specs::Packets::packet_at))]
+fn packet_with(bytes: &[u8], captured: ByteList) -> Packet
+    requires header { 82 ≤ length bytes.now }
+    requires captured { captured ≡ take (number_at 4 12 bytes.now) (drop 82 bytes.now) }
+    ensures { result ≡ packet_at bytes.now }
 {
+    let link = link_address_at(bytes, 48);
+    let addr = link.addr;
     Packet {
-        sec: packet.sec,
-        nsec: packet.nsec,
-        wire: packet.wire,
-        rxhash: packet.rxhash,
-        protocol: packet.protocol,
-        pkttype: packet.pkttype,
-        addr: packet.addr,
-        bytes,
-        tag: packet.tag,
+        sec: u32_at(bytes, 4),
+        nsec: u32_at(bytes, 8),
+        wire: u32_at(bytes, 16),
+        rxhash: u32_at(bytes, 28),
+        protocol: link.protocol,
+        pkttype: link.pkttype,
+        addr,
+        bytes: captured,
+        tag: tag_at(bytes),
     }
 }
 

@@ -1,72 +1,73 @@
-use Rattle.std.proofs.Common.{◌+◌, ◌≤◌, length, ◌∙◌, ap, rules, arith}
-use Rattle.std.proofs.Math.Seq.{take-length}
-use Rattle.tp_layout.specs.Readers.{seen}
-use Rattle.tp_layout.proofs.Copies.{next_part, part_within, part_is, part_rest, front_kept, one_more}
-use Rattle.tp_layout.proofs.Walks.{packets_in-length}
+use Rattle.std.proofs.Common.{◌++◌, List, ◌∙◌, ap, sym, append-nil, arith}
+use Rattle.frame_view.specs.declared.frames.Packet.{Packet}
+use Rattle.tp_layout.specs.Packets.{packet_at}
+use Rattle.tp_layout.proofs.Copies.{first_part, front_kept, one_more}
+use Rattle.tp_layout.proofs.Walks.{first_passes, none_in, packets_in_step}
 use Rattle.tp_layout.proofs.packet_walks.PacketWalk.push_parts.Goals as goal
 
-pub loop-packet-init : goal.loop-packet-init
-loop-packet-init c = record {
-  copies = search rules;
-  front = take-length _;
-  room = omega (
-    arith,
-    ap length c.into_iter-packet-iterator.ensures.into_iter_gives,
-    ap length c.self.view_is,
-    packets_in-length c.self.inside.left c.self.inside.rest.now,
-    c.in_ok-reserve.ensures.ok,
-  );
-  within = omega arith;
-  joined = search rules;
-}
-
-pub overflow_cast-count : goal.overflow_cast-count
-overflow_cast-count c =
-    let l = c.loop-packet in
-    let next = next_part c.args.piece.now l.from _ _ (seen c.in-Some.packet) l.invariant.joined c.in-Some.ensures.steps in
-    let within : l.from + length c.in-Some.packet.bytes.now ≤ length c.args.piece.now =
-    part_within _ _ _ l.from l.invariant.within next in
-    omega (arith, within, c.requires.small)
+pub u32_at-snap-requires : goal.u32_at-snap-requires
+u32_at-snap-requires c =
+    let first = first_passes c.loop-left.left c.loop-left.rest.now c.loop-left-test.true c.loop-left.invariant.passes in
+    omega (arith, first.header)
 
 pub part-requires : goal.part-requires
 part-requires c =
-    let l = c.loop-packet in
-    let next = next_part c.args.piece.now l.from _ _ (seen c.in-Some.packet) l.invariant.joined c.in-Some.ensures.steps in
-    part_within _ _ _ l.from l.invariant.within next
+    let l = c.loop-left in
+    let part = first_part l.left l.from l.rest.now c.args.piece.now c.loop-left-test.true l.invariant.passes l.invariant.within
+    l.invariant.joined in
+    rw c.u32_at-snap.ensures part.within
 
-pub with_bytes-requires : goal.with_bytes-requires
-with_bytes-requires c =
-    let l = c.loop-packet in
-    let next = next_part c.args.piece.now l.from _ _ (seen c.in-Some.packet) l.invariant.joined c.in-Some.ensures.steps in
-    c.in_ok-bytes.ensures ∙ part_is _ _ _ l.from next
+pub packet_with-requires-clause-header : goal.packet_with-requires-clause-header
+packet_with-requires-clause-header c =
+    let first = first_passes c.loop-left.left c.loop-left.rest.now c.loop-left-test.true c.loop-left.invariant.passes in
+    omega (arith, first.header)
 
-pub overflow_add-from : goal.overflow_add-from
-overflow_add-from c =
-    let l = c.loop-packet in
-    let next = next_part c.args.piece.now l.from _ _ (seen c.in-Some.packet) l.invariant.joined c.in-Some.ensures.steps in
-    let within : l.from + length c.in-Some.packet.bytes.now ≤ length c.args.piece.now =
-    part_within _ _ _ l.from l.invariant.within next in
-    omega (arith, within, c.requires.small)
+pub packet_with-requires-clause-captured : goal.packet_with-requires-clause-captured
+packet_with-requires-clause-captured c =
+    let l = c.loop-left in
+    let part = first_part l.left l.from l.rest.now c.args.piece.now c.loop-left-test.true l.invariant.passes l.invariant.within
+    l.invariant.joined in
+    rw (c.in_ok-bytes.ensures, c.u32_at-snap.ensures) part.is
 
-pub push_reserved-requires : goal.push_reserved-requires
-push_reserved-requires c = omega (arith, ap length c.in-Some.ensures.steps, c.loop-packet.invariant.room)
+pub need-requires : goal.need-requires
+need-requires c =
+    let first = first_passes c.loop-left.left c.loop-left.rest.now c.loop-left-test.true c.loop-left.invariant.passes in
+    rw c.u32_at-snap.ensures first.small
 
-pub loop-packet-preserved : goal.loop-packet-preserved
-loop-packet-preserved c =
-    let l = c.loop-packet in
-    let next = next_part c.args.piece.now l.from _ _ (seen c.in-Some.packet) l.invariant.joined c.in-Some.ensures.steps in
+pub split_at-requires : goal.split_at-requires
+split_at-requires c =
+    let first = first_passes c.loop-left.left c.loop-left.rest.now c.loop-left-test.true c.loop-left.invariant.passes in
+    rw (c.need.ensures, c.u32_at-snap.ensures) first.within
+
+pub loop-left-preserved : goal.loop-left-preserved
+loop-left-preserved c =
+    let l = c.loop-left in
+    let some = c.loop-left-test.true in
+    let first = first_passes l.left l.rest.now some l.invariant.passes in
+    let part = first_part l.left l.from l.rest.now c.args.piece.now some l.invariant.passes l.invariant.within
+    l.invariant.joined in
     record {
-      copies = rw (c.push_reserved.ensures.items, c.with_bytes.ensures)
-          (one_more l.into.items _ _ _ (seen c.in-Some.packet) l.invariant.copies c.in-Some.ensures.steps);
+      passes = rw (c.split_at.ensures.back, c.need.ensures, c.u32_at-snap.ensures) first.rest;
+      copies = rw (
+        c.push_reserved.ensures.items,
+        c.packet_with.ensures,
+        c.split_at.ensures.back,
+        c.need.ensures,
+        c.u32_at-snap.ensures,
+      )
+          (one_more l.into.items _ _ _ (packet_at l.rest.now) l.invariant.copies (packets_in_step l.left l.rest.now some));
       front = rw c.push_reserved.ensures.items
-          (front_kept c.reserve.new.self.items l.into.items c.with_bytes.result l.invariant.front);
-      room = omega (
-        arith,
-        ap length c.in-Some.ensures.steps,
-        l.invariant.room,
-        c.push_reserved.ensures.len,
-        c.push_reserved.ensures.capacity,
-      );
-      within = part_within _ _ _ l.from l.invariant.within next;
-      joined = part_rest _ _ _ l.from next;
+          (front_kept c.reserve.new.self.items l.into.items c.packet_with.result l.invariant.front);
+      room = omega (arith, some, l.invariant.room, c.push_reserved.ensures.len, c.push_reserved.ensures.capacity);
+      within = rw c.u32_at-snap.ensures part.within;
+      joined = rw (c.split_at.ensures.back, c.need.ensures, c.u32_at-snap.ensures) part.others;
     }
+
+pub returns-clause-copies : goal.returns-clause-copies
+returns-clause-copies c =
+    let l = c.loop-left in
+    let none = none_in l.left l.rest.now (omega (arith, c.loop-left-test.false)) in
+    sym (append-nil l.into.items)
+    ∙ ap (λ (packets : List Packet). l.into.items ++ packets) (sym none)
+    ∙ l.invariant.copies
+    ∙ ap (λ (packets : List Packet). packets ++ c.args.self) c.reserve.ensures.items
