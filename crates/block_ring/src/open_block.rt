@@ -74,19 +74,14 @@ impl OpenBlock {
         ensures { Holds shape.now (with_packet text offer.now) self.new }
     {
         a_shape_is_sound(shape);
+        self.keep_first_time(offer);
         let at = self.closing.length;
-        let (first_sec, first_nsec) = self.first_time(offer);
         self.block.write(shape, at, offer);
-        self.closing = Closing {
-            status: 0,
-            packets: self.closing.packets + 1,
-            length: at + need(offer.snap),
-            last_at: at,
-            first_sec,
-            first_nsec,
-            last_sec: offer.frame.sec,
-            last_nsec: offer.frame.nsec,
-        };
+        self.closing.packets += 1;
+        self.closing.length = at + need(offer.snap);
+        self.closing.last_at = at;
+        self.closing.last_sec = offer.frame.sec;
+        self.closing.last_nsec = offer.frame.nsec;
     }
 
     /// Closes the block, with the status of retirement: TP_STATUS_USER (1), with TP_STATUS_LOSING
@@ -109,17 +104,23 @@ impl OpenBlock {
         self.block.close(shape, &closing)
     }
 
-    /// The time of the first packet, if an offer's packet comes after those that are there.
-    fn first_time(&self, offer: &Offer) -> (u32, u32)
+    /// Keeps the time of an offer's packet, if it will be the first one.
+    fn keep_first_time(&mut self, offer: &Offer)
         ghost text: { OpenText }
-        requires { (shape : RingRequest) × Holds shape text self.now }
-        ensures { (shape : RingRequest) → Holds shape text self.now → result
+        requires { (shape : RingRequest) × Holds shape text self.old }
+        ensures same { self.new ≡ record self.old {
+          closing = record self.old.closing {
+            first_sec = self.new.closing.first_sec;
+            first_nsec = self.new.closing.first_nsec;
+          };
+        } }
+        ensures time { (shape : RingRequest) → Holds shape text self.old
+            → (self.new.closing.first_sec, self.new.closing.first_nsec)
             ≡ first_time (packets_of_offers shape (with_packet text offer.now).offers) }
     {
         if self.closing.packets == 0 {
-            (offer.frame.sec, offer.frame.nsec)
-        } else {
-            (self.closing.first_sec, self.closing.first_nsec)
+            self.closing.first_sec = offer.frame.sec;
+            self.closing.first_nsec = offer.frame.nsec;
         }
     }
 }
