@@ -1,21 +1,26 @@
 -- An offer is delivered, and an arrival is received.
-use Rattle.std.proofs.Common.{◌≡◌, ℕ, ◌<◌, Bool, true, false, List, [], ◌∷◌, ◌++◌, refl, sym, ap, ◌∙◌, subst, arith}
-use Rattle.std.specs.Prelude.{Option, None, Some}
+use Rattle.std.proofs.Common.{◌≡◌, ◌≢◌, ℕ, ◌<◌, Bool, true, false, cond, List, [], ◌∷◌, ◌++◌, refl, sym, ap, ◌∙◌, subst, arith}
+use Rattle.std.proofs.Common.{ne_eqb}
+use Rattle.std.specs.Prelude.{Option, None, Some, option_copied, unwrap_or}
 use Rattle.frame_view.specs.declared.frames.Frame.{Frame}
+use Rattle.ring_model.specs.Offers.{offer_of}
 use Rattle.ring_model.specs.declared.notes.Offer.{Offer}
 use Rattle.fanout_group.specs.Deliveries.{AreTriesOf, HasDrawn, IsAdmitted, IsDelivery, IsGivenUp, Received, home_for}
-use Rattle.fanout_group.specs.Judgements.{AgreesAt, IsJudged, Lens, first_entry, rules_by}
+use Rattle.fanout_group.specs.Judgements.{AgreesAt, IsJudged, Lens, first_entry, hash_by, offer_by, offer_if}
+use Rattle.fanout_group.specs.Judgements.{rules_by, verdict_by}
 use Rattle.fanout_group.specs.Lenses.{lens_of}
 use Rattle.fanout_group.specs.Logs.{IsEntry}
 use Rattle.fanout_group.specs.Paths.{IsPath, IsPathTo, Path}
 use Rattle.fanout_group.specs.Plans.{Shape, rolls_over}
 use Rattle.fanout_group.specs.Routes.{IsBegun, IsRoute, present_after}
-use Rattle.fanout_group.specs.Rules.{HasTicket}
+use Rattle.fanout_group.specs.Rules.{HasTicket, home_by}
 use Rattle.fanout_group.specs.declared.judgements.ArrivalRules.{ArrivalRules}
 use Rattle.fanout_group.specs.declared.logs.ArrivalLog.{ArrivalLog}
 use Rattle.fanout_group.specs.declared.logs.Try.{Try}
 use Rattle.fanout_group.specs.declared.modes.Mode.{Mode}
+use Rattle.fanout_group.specs.declared.modes.Mode.TheVariants.{Cpu, Hash, Lb, Qm, Rollover}
 use Rattle.fanout_group.specs.inside.TryEffects.{AreListed}
+use Rattle.fanout_group.proofs.LikeLenses.{judged_alike}
 use Rattle.fanout_group.proofs.LongerLogs.{delivered, logs_one, passed_over}
 use Rattle.fanout_group.proofs.RouteBounds.{present_after-route, present_of_route}
 
@@ -131,3 +136,88 @@ module _ {G : Type 0} (made : Offer → List Try → G → G → Type 0) (drew :
       subst (λ (path : Path). IsPath (rules_by old.shape lens) frames path) (sym received.new_is)
       (logs_one old.shape lens frames arrival (record received.entry { tries = received.tries }) old refl to
       (entry_by received.offer (received.admitted.judged lens agrees) received.tried))
+
+-- ---- what is judged of an arrival
+
+module _ (rules : ArrivalRules) (arrival : Frame) (hash verdict : ℕ) (hash_is : hash ≡ hash_by (option_copied rules.key) arrival)
+    (verdict_is : verdict ≡ verdict_by (lens_of rules) arrival) where
+  offers : offer_by (lens_of rules) rules.room arrival ≡ offer_if rules.room rules.own hash verdict arrival
+  offers =
+      ap (λ (h : ℕ). offer_if rules.room rules.own h (verdict_by (lens_of rules) arrival) arrival) (sym hash_is)
+      ∙ ap (λ (v : ℕ). offer_if rules.room rules.own hash v arrival) (sym verdict_is)
+
+  pub offers_nothing : verdict ≡ 0 → offer_by (lens_of rules) rules.room arrival ≡ None
+  offers_nothing none = offers ∙ ap (λ (v : ℕ). offer_if rules.room rules.own hash v arrival) none
+
+  offers_it : (offer : Offer) → verdict ≢ 0 → offer ≡ offer_of rules.room rules.own hash verdict arrival
+      → offer_by (lens_of rules) rules.room arrival ≡ Some offer
+  offers_it offer some is =
+      offers
+      ∙ ap (λ (b : Bool). cond b None (Some (offer_of rules.room rules.own hash verdict arrival))) (ne_eqb verdict 0 some)
+      ∙ ap (λ (o : Offer). Some o) (sym is)
+
+  entry_so : (ticket : Option ℕ) (tries : List Try)
+      → record (first_entry (lens_of rules) arrival ticket) { hash = hash; verdict = verdict; tries = tries }
+      ≡ record (first_entry (lens_of rules) arrival ticket) { tries = tries }
+  entry_so ticket tries =
+      ap (λ (h : ℕ). record (first_entry (lens_of rules) arrival ticket) { hash = h; verdict = verdict; tries = tries }) hash_is
+      ∙ ap (λ (v : ℕ). record (first_entry (lens_of rules) arrival ticket) { verdict = v; tries = tries }) verdict_is
+
+  module _ {G : Type 0} (made : Offer → List Try → G → G → Type 0) (drew : ℕ → G → G → Type 0) (ticket : Option ℕ)
+      (mid after : G) where
+    -- the tries of the offer that is made
+    pub tries_from_home : (Such : Bool → ℕ → ℕ → List Try → Type 0) (shape : Shape) (queue present home : ℕ) (offer : Offer)
+        (tries : List Try)
+        → verdict ≢ 0 → offer ≡ offer_of rules.room rules.own hash verdict arrival
+        → home ≡ home_by shape.mode shape.members hash (unwrap_or ticket 0) arrival.cpu queue present
+        → Such (rolls_over shape) shape.members home tries → made offer tries mid after
+        → AreTriesOf Such made shape ticket queue present (offer_by (lens_of rules) rules.room arrival) tries mid after
+    tries_from_home Such shape queue present home offer tries some is home_is such its =
+        subst (λ (o : Option Offer). AreTriesOf Such made shape ticket queue present o tries mid after)
+        (sym (offers_it offer some is)) (
+          subst (λ (at : ℕ). Such (rolls_over shape) shape.members at tries)
+              (home_is ∙ sym (ap (λ (o : Offer). home_for shape o ticket queue present) is)) such,
+          its,
+        )
+
+    module _ (old : Path) (before : G) (mode : Mode) (mode_is : mode ≡ old.shape.mode) (has : HasTicket mode ticket)
+        (draws : HasDrawn drew ticket before mid) where
+      admitted : IsAdmitted drew rules old.shape arrival (first_entry (lens_of rules) arrival ticket)
+          (offer_by (lens_of rules) rules.room arrival) before mid
+      admitted =
+          is_admitted made drew rules arrival _ _ old.shape mode ticket before mid mode_is has draws refl
+          (λ group agree. judged_alike arrival group (lens_of rules) agree rules.room ticket _ _ refl refl)
+
+      pub receives : (tries : List Try) (next : ℕ) (new : Path)
+          → AreTriesOf IsRoute made old.shape ticket rules.queue old.present (offer_by (lens_of rules) rules.room arrival)
+          tries mid after
+          → next ≡ present_after old.shape.mode old.present tries
+          → new ≡ record old {
+            present = next;
+            log = old.log ++ (record {
+              index = arrival.index;
+              ticket = ticket;
+              hash = hash;
+              verdict = verdict;
+              tries = tries;
+            }) ∷ [];
+          }
+          → Received made drew rules arrival old new before after
+      receives tries next new tried next_is new_is =
+          is_received made drew rules arrival _ _ old before mid after admitted new next
+          (record (first_entry (lens_of rules) arrival ticket) { hash = hash; verdict = verdict; tries = tries })
+          tried (entry_so ticket tries) next_is new_is
+
+      pub gives_up : (tries : List Try)
+          → AreTriesOf IsBegun made old.shape ticket rules.queue old.present (offer_by (lens_of rules) rules.room arrival)
+          tries mid after
+          → IsGivenUp made drew rules arrival old before after
+      gives_up tries tried = is_given_up made drew rules arrival _ _ old before mid after admitted tries tried
+
+-- with no try the present member stays
+pub present_after-none : (mode : Mode) (present : ℕ) → present ≡ present_after mode present []
+present_after-none Hash present = refl
+present_after-none Lb present = refl
+present_after-none Cpu present = refl
+present_after-none Qm present = refl
+present_after-none Rollover present = refl

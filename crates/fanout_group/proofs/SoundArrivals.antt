@@ -11,11 +11,11 @@ use Rattle.fanout_group.specs.Arrivals.{IsArrival, IsUntagged, arrival_at, arriv
 use Rattle.fanout_group.proofs.ArrivalFacts.{IsArrivalAt, arrives_if, passes, untagged_is}
 
 -- what a frame leaves held, and what arrives with it
-record Leaves (frame : Frame) (behind : List Frame) (comes : Option Frame) : Type 0 where
+pub record Leaves (frame : Frame) (behind : List Frame) (comes : Option Frame) : Type 0 where
   pub held : All IsUntagged behind
   pub arrival : IfSome comes (IsArrivalAt (untagged frame))
 
-leaves : (defrag : Bool) (held : List Frame) (frame : Frame) → All IsUntagged held → frame.tag ≡ None → IsCaptured frame
+pub leaves : (defrag : Bool) (held : List Frame) (frame : Frame) → All IsUntagged held → frame.tag ≡ None → IsCaptured frame
     → Leaves frame (held_behind defrag held frame) (arrival_at defrag held frame)
 leaves false held frame all bare captured =
     let is = (untagged_is frame bare captured).untagged in

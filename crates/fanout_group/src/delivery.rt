@@ -1,12 +1,13 @@
 //! Who gets a packet: the tries of an arrival, by the rules of its group.
-ghost use Rattle.std.specs.Prelude.{◌≡◌, ◌+◌, ◌<◌, ◌≤◌, ℕ, unwrap_or, IfNone, IfOk, IfSome, OnErr};
-ghost use Rattle.std.specs.Prelude.{OnOk};
+ghost use Rattle.std.specs.Prelude.{◌≡◌, ◌+◌, ◌<◌, ◌≤◌, ℕ, List, unwrap_or, IfNone, IfOk, IfSome};
+ghost use Rattle.std.specs.Prelude.{OnErr, OnOk};
 ghost use Rattle.fanout_group.specs.Deliveries.{IsBegunDelivery, IsDelivery};
 ghost use Rattle.fanout_group.specs.Desks.{TakesTheSame};
 ghost use Rattle.fanout_group.specs.Plans.{rolls_over};
 ghost use Rattle.fanout_group.specs.Routes.{AreRefusals, IsBegun, IsKeptOnTheWay, IsRoute};
 ghost use Rattle.fanout_group.specs.Routes.{present_after, refused_from};
 ghost use Rattle.fanout_group.specs.Rules.{HasTicket, home_by};
+ghost use Rattle.fanout_group.specs.declared.logs.Try.{Try};
 ghost use Rattle.fanout_group.specs.inside.TryEffects.{AreListed};
 
 use crate::{Desk, Mode, Plan, Try, TryList};
@@ -49,24 +50,65 @@ pub fn deliver<D: Desk>(
     ensures room { OnOk result ((n : ℕ) → D.room desk.old (n + 9) → D.room desk.new n) }
     ensures same { TakesTheSame (D.takes desk.old) (D.takes desk.new) }
 {
-    let home = home(plan, *present, queue, &offer, ticket);
+    let (cpu, hash) = (offer.frame.cpu, offer.hash);
+    let home = home(plan, *present, queue, cpu, hash, ticket);
     make_tries(plan, desk, home, offer, tries)?;
     *present = present_after(plan.mode(), *present, tries.as_slice());
     Ok(())
 }
 
+/// Delivers a packet from its home on, as `deliver` does, and returns the tries that were made.
+#[inline(never)]
+pub(crate) fn deliver_from<D: Desk>(
+    alloc: Global,
+    plan: &Plan,
+    desk: &mut D,
+    present: &mut u32,
+    home: u32,
+    offer: Offer,
+) -> Result<TryList, Memory>
+    requires present { present.old < plan.now.members }
+    requires home { home < plan.now.members }
+    requires room { D.room desk.old 9 }
+    requires takes { (member : ℕ) → member < plan.now.members → D.takes desk.old member offer }
+    ensures route { IfOk result (λ tries. IsRoute (rolls_over plan.now) plan.now.members home
+        tries) }
+    ensures made { IfOk result (λ tries. D.made offer tries desk.old desk.new) }
+    ensures begun { OnErr result ((tries : List Try)
+        × IsBegun (rolls_over plan.now) plan.now.members home tries
+        × D.made offer tries desk.old desk.new) }
+    ensures present { IfOk result (λ tries. present.new
+        ≡ present_after plan.now.mode present.old tries) }
+    ensures stays { OnErr result (present.new ≡ present.old) }
+    ensures member { present.new < plan.now.members }
+    ensures room { OnOk result ((n : ℕ) → D.room desk.old (n + 9) → D.room desk.new n) }
+    ensures same { TakesTheSame (D.takes desk.old) (D.takes desk.new) }
+{
+    let mut tries = TryList::new(alloc);
+    make_tries(plan, desk, home, offer, &mut tries)?;
+    *present = present_after(plan.mode(), *present, tries.as_slice());
+    Ok(tries)
+}
+
 /// The member that a packet is for first.
-fn home(plan: &Plan, present: u32, queue: u32, offer: &Offer, ticket: Option<u64>) -> u32
+pub(crate) fn home(
+    plan: &Plan,
+    present: u32,
+    queue: u32,
+    cpu: u32,
+    hash: u32,
+    ticket: Option<u64>,
+) -> u32
     requires present { present < plan.now.members }
     ensures home { result ≡ home_by plan.now.mode plan.now.members
-        offer.now.hash (unwrap_or ticket 0) offer.now.frame.cpu queue present }
+        hash (unwrap_or ticket 0) cpu queue present }
     ensures member { result < plan.now.members }
 {
     let members = plan.members();
     match plan.mode() {
-        Mode::Hash => offer.hash % members,
+        Mode::Hash => hash % members,
         Mode::Lb => (ticket.unwrap_or(0) % u64::from(members)) as u32,
-        Mode::Cpu => offer.frame.cpu % members,
+        Mode::Cpu => cpu % members,
         Mode::Qm => queue % members,
         Mode::Rollover => present,
     }

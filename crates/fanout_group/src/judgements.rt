@@ -1,12 +1,13 @@
 //! What an arrival is before any member is chosen: its flow hash, its verdict, and the offer that
 //! it makes.
-ghost use Rattle.std.specs.Prelude.{◌≡◌, ◌<◌, ◌≤◌, IfSome, length, option_copied};
+ghost use Rattle.std.specs.Prelude.{◌≡◌, ◌≢◌, ◌<◌, ◌≤◌, IfSome, length, option_copied};
 ghost use Rattle.fanout_group.specs.Arrivals.{IsArrival};
 ghost use Rattle.fanout_group.specs.Judgements.{AgreesAt, IsJudged, Lens, first_entry, hash_by};
-ghost use Rattle.fanout_group.specs.Judgements.{offer_by, offer_if, verdict_by};
+ghost use Rattle.fanout_group.specs.Judgements.{offer_by, verdict_by};
 ghost use Rattle.fanout_group.specs.Lenses.{lens_of};
 ghost use Rattle.frame_view.specs.Headers.{packet_type_of};
-ghost use Rattle.ring_model.specs.Offers.{IsSound};
+ghost use Rattle.ring_model.specs.Offers.{IsSound, offer_of};
+ghost use Rattle.ring_model.specs.Sizes.{snap_of};
 
 use crate::{ArrivalLog, TryList};
 use bpf_filter::{Program, Seen, verdict_with};
@@ -39,13 +40,25 @@ pub struct Judged {
     pub offer: Option<Offer>,
 }
 
+/// What a group finds of an arrival, before any member is chosen.
+#[derive(Clone, Copy)]
+pub(crate) struct Judgement {
+    /// Its flow hash, 0 without a key.
+    pub(crate) hash: u32,
+    /// How many bytes the filter keeps at most; 0 refuses the arrival.
+    pub(crate) verdict: u32,
+    /// How many bytes it offers.
+    pub(crate) snap: u32,
+    /// Its packet type, 0 to 3.
+    pub(crate) pkttype: u8,
+}
+
 /// The bytes that a packet takes in a block beside its data and the padding.
 const HEADERS: u32 = 82;
 
 impl ArrivalRules<'_> {
     /// Judges an arrival of the CPU, with its ticket if it drew one: its flow hash, then the
     /// filter's verdict on it, then the offer that it makes. It takes no memory.
-    #[inline(always)]
     pub fn judge(&self, alloc: Global, arrival: Frame, ticket: Option<u64>) -> Judged
         requires arrival { IsArrival arrival }
         requires room { 82 < self.now.room }
@@ -55,18 +68,66 @@ impl ArrivalRules<'_> {
         ensures judged { (group : Lens) → AgreesAt arrival.cpu group (lens_of self.now)
             → IsJudged group self.now.room arrival result.entry result.offer }
     {
-        let pkttype = pkttype(arrival.bytes.as_slice(), self.own);
-        let hash = self.hash(&arrival);
-        let verdict = self.verdict(&arrival, pkttype, hash);
+        let judgement = self.judgement(&arrival);
         let entry = ArrivalLog {
             index: arrival.index,
             ticket,
-            hash,
-            verdict,
+            hash: judgement.hash,
+            verdict: judgement.verdict,
             tries: TryList::new(alloc),
         };
-        let offer = self.offer(arrival, pkttype, hash, verdict);
+        let offer = if judgement.verdict == 0 {
+            None
+        } else {
+            Some(self.offer(arrival, judgement))
+        };
         Judged { entry, offer }
+    }
+
+    /// The flow hash of an arrival, the filter's verdict on it, and how much of it is offered: as
+    /// many bytes as the least of its captured length, its verdict, and what a block has room for.
+    /// Its caller hands the arrival on whole, and so it isn't inlined there.
+    #[inline(never)]
+    pub(crate) fn judgement(&self, arrival: &Frame) -> Judgement
+        requires arrival { IsArrival arrival.now }
+        requires room { 82 < self.now.room }
+        ensures hash { result.hash ≡ hash_by (option_copied self.now.key) arrival.now }
+        ensures verdict { result.verdict ≡ verdict_by (lens_of self.now) arrival.now }
+        ensures snap { result.snap
+            ≡ snap_of self.now.room (length arrival.now.bytes) result.verdict }
+        ensures pkttype { result.pkttype ≡ packet_type_of arrival.now.bytes self.now.own }
+    {
+        let pkttype = pkttype(arrival.bytes.as_slice(), self.own);
+        let hash = self.hash(arrival);
+        let verdict = self.verdict(arrival, pkttype, hash);
+        let captured = arrival.bytes.len();
+        let most = (self.room - HEADERS) as usize;
+        Judgement {
+            hash,
+            verdict,
+            snap: captured.min(verdict as usize).min(most) as u32,
+            pkttype,
+        }
+    }
+
+    /// What an arrival that the filter passes offers to a member.
+    pub(crate) fn offer(&self, arrival: Frame, judgement: Judgement) -> Offer
+        requires arrival { IsArrival arrival }
+        requires room { 82 < self.now.room }
+        requires passes { judgement.verdict ≢ 0 }
+        requires snap { judgement.snap
+            ≡ snap_of self.now.room (length arrival.bytes) judgement.verdict }
+        requires pkttype { judgement.pkttype ≡ packet_type_of arrival.bytes self.now.own }
+        ensures offer { result
+            ≡ offer_of self.now.room self.now.own judgement.hash judgement.verdict arrival }
+        ensures sound { IsSound self.now.room result }
+    {
+        Offer {
+            frame: arrival,
+            snap: judgement.snap,
+            hash: judgement.hash,
+            pkttype: judgement.pkttype,
+        }
     }
 
     /// The flow hash of an arrival, 0 without a key.
@@ -99,27 +160,5 @@ impl ArrivalRules<'_> {
             cpu: arrival.cpu,
         };
         verdict_with(self.filter, &seen)
-    }
-
-    /// What an arrival offers to a member: as many bytes as the least of its captured length, its
-    /// verdict, and what a block has room for. Nothing if its verdict is 0.
-    #[inline(always)]
-    fn offer(&self, arrival: Frame, pkttype: u8, hash: u32, verdict: u32) -> Option<Offer>
-        requires arrival { IsArrival arrival }
-        requires room { 82 < self.now.room }
-        requires pkttype { pkttype ≡ packet_type_of arrival.bytes self.now.own }
-        ensures offer { result ≡ offer_if self.now.room self.now.own hash verdict arrival }
-        ensures sound { IfSome result (IsSound self.now.room) }
-    {
-        if verdict == 0 {
-            return None;
-        }
-        let captured = arrival.bytes.len() as u32;
-        Some(Offer {
-            frame: arrival,
-            snap: captured.min(verdict).min(self.room - HEADERS),
-            hash,
-            pkttype,
-        })
     }
 }

@@ -1,23 +1,26 @@
 //! The receive path of a CPU: from the frames of its capture to arrivals, and from the tries of an
 //! arrival to its log.
-ghost use Rattle.std.specs.Prelude.{◌≡◌, ◌+◌, ◌<◌, ◌≤◌, ℕ, List, [], ◌∷◌, ◌++◌, None, Some};
-ghost use Rattle.std.specs.Prelude.{All, IfOk, IfSome, OnErr, OnOk};
+ghost use Rattle.std.specs.Prelude.{◌≡◌, ◌+◌, ◌<◌, ◌≤◌, ◌↔◌, ℕ, List, [], ◌∷◌, ◌++◌, None};
+ghost use Rattle.std.specs.Prelude.{length, All, IfOk, IfSome, IsTrue, OnErr, OnOk};
 ghost use Rattle.capture_file.specs.Laws.{IsCaptured};
 ghost use Rattle.fanout_group.specs.Arrivals.{HasPlaceOf, IsArrival, IsUntagged, arrival_at};
 ghost use Rattle.fanout_group.specs.Arrivals.{held_after, held_behind, no_runt, whole_at};
-ghost use Rattle.fanout_group.specs.Deliveries.{AreTriesOf, HasDrawn, IsGivenUp, Received};
+ghost use Rattle.fanout_group.specs.Deliveries.{HasDrawn, IsGivenUp, Received};
 ghost use Rattle.fanout_group.specs.Deliveries.{TakesAllOf};
 ghost use Rattle.fanout_group.specs.Desks.{TakesTheSame};
 ghost use Rattle.fanout_group.specs.Judgements.{AgreesAt, Lens, rules_by};
 ghost use Rattle.fanout_group.specs.Lenses.{lens_of};
 ghost use Rattle.fanout_group.specs.Paths.{IsPath, IsPathBehind, IsPathTo, first_path};
-ghost use Rattle.fanout_group.specs.Plans.{has_defrag};
+ghost use Rattle.fanout_group.specs.Plans.{has_defrag, rolls_over};
 ghost use Rattle.fanout_group.specs.Routes.{IsBegun, IsRoute, present_after};
 ghost use Rattle.fanout_group.specs.Rules.{HasTicket, Rules};
+ghost use Rattle.fanout_group.specs.declared.logs.Try.{Try};
+ghost use Rattle.frame_view.specs.Vlan.{untagged};
 ghost use Rattle.frame_view.specs.declared.frames.Frame.{Frame};
 ghost use Rattle.ip_defrag.specs.Fold.{pass};
 
-use crate::{ArrivalList, ArrivalLog, ArrivalRules, Group, Judged, Mode, Plan, deliver};
+use crate::delivery::{deliver_from, home};
+use crate::{ArrivalList, ArrivalLog, ArrivalRules, Group, Mode, Plan, TryList};
 use frame_view::{Frame, Memory, untag};
 use ip_defrag::Defrag;
 use ring_model::Offer;
@@ -92,26 +95,11 @@ impl ReceivePath {
             → IsPathBehind rules (frames ++ frame ∷ []) arrival self.new) }
     {
         let mut frame = frame;
-        untag(&mut frame);
-        let whole = self.reassemble(frame)?;
-        Ok(without_runt(whole))
-    }
-
-    /// Passes an untagged frame through reassembly, if the group reassembles fragments.
-    fn reassemble(&mut self, frame: Frame) -> Result<Option<Frame>, Memory>
-        requires untagged { IsUntagged frame }
-        ensures whole { IfOk result (λ whole.
-            whole ≡ whole_at (has_defrag self.old.shape.flags) self.old.held frame) }
-        ensures held { OnOk result (self.new ≡ record self.old {
-          held = held_after (has_defrag self.old.shape.flags) self.old.held frame;
-        }) }
-        ensures sound { IfOk result (λ whole. IfSome whole IsUntagged) }
-        ensures place { IfOk result (λ whole. IfSome whole (HasPlaceOf frame)) }
-        ensures err { OnErr result (self.new ≡ self.old) }
-    {
+        let has_header = untag_arrival(&mut frame);
         match &mut self.reassembly {
+            None if has_header => Ok(Some(frame)),
+            None => Ok(None),
             Some(reassembly) => push(reassembly, frame),
-            None => Ok(Some(frame)),
         }
     }
 
@@ -148,18 +136,24 @@ impl ReceivePath {
         ensures same { TakesTheSame (G.takes group.old) (G.takes group.new) }
     {
         let ticket = draw(self.plan.mode(), group);
-        let Judged { mut entry, offer } = rules.judge(alloc, arrival, ticket);
+        let judgement = rules.judgement(&arrival);
+        let index = arrival.index;
         self.log.reserve(1)?;
-        offer_to(
-            alloc,
-            &self.plan,
-            group,
-            &mut self.present,
-            rules.queue,
-            offer,
-            &mut entry,
-        )?;
-        self.log.push_reserved(entry);
+        let tries = if judgement.verdict == 0 {
+            TryList::new(alloc)
+        } else {
+            let (queue, cpu, hash) = (rules.queue, arrival.cpu, judgement.hash);
+            let home = home(&self.plan, self.present, queue, cpu, hash, ticket);
+            let offer = rules.offer(arrival, judgement);
+            offer_to(alloc, &self.plan, group, &mut self.present, home, offer)?
+        };
+        self.log.push_reserved(ArrivalLog {
+            index,
+            ticket,
+            hash: judgement.hash,
+            verdict: judgement.verdict,
+            tries,
+        });
         Ok(())
     }
 
@@ -185,59 +179,69 @@ fn draw<G: Group>(mode: Mode, group: &mut G) -> Option<u64>
     }
 }
 
-/// Delivers what an arrival offers, if it offers anything, and reports the tries in its entry. The
-/// offer is announced first.
+/// Announces an offer and delivers it from its home on; returns its tries. Without rollover that is
+/// one try, at home.
 fn offer_to<G: Group>(
     alloc: Global,
     plan: &Plan,
     group: &mut G,
     present: &mut u32,
-    queue: u32,
-    offer: Option<Offer>,
-    entry: &mut ArrivalLog,
-) -> Result<(), Memory>
+    home: u32,
+    offer: Offer,
+) -> Result<TryList, Memory>
     requires present { present.old < plan.now.members }
-    requires ticket { HasTicket plan.now.mode entry.old.ticket }
-    requires none { entry.old.tries ≡ [] }
+    requires home { home < plan.now.members }
     requires room { G.room group.old 9 }
-    requires takes { IfSome offer (λ offer.
-        (member : ℕ) → member < plan.now.members → G.takes group.old member offer) }
-    ensures tried { OnOk result (AreTriesOf IsRoute G.made plan.now entry.old.ticket queue
-        present.old offer entry.new.tries group.old group.new) }
-    ensures begun { OnErr result (AreTriesOf IsBegun G.made plan.now entry.old.ticket queue
-        present.old offer entry.new.tries group.old group.new) }
-    ensures entry { entry.new ≡ record entry.old { tries = entry.new.tries } }
-    ensures present { OnOk result (present.new
-        ≡ present_after plan.now.mode present.old entry.new.tries) }
+    requires takes { (member : ℕ) → member < plan.now.members → G.takes group.old member offer }
+    ensures route { IfOk result (λ tries. IsRoute (rolls_over plan.now) plan.now.members home
+        tries) }
+    ensures made { IfOk result (λ tries. G.made offer tries group.old group.new) }
+    ensures begun { OnErr result ((tries : List Try)
+        × IsBegun (rolls_over plan.now) plan.now.members home tries
+        × G.made offer tries group.old group.new) }
+    ensures present { IfOk result (λ tries. present.new
+        ≡ present_after plan.now.mode present.old tries) }
     ensures stays { OnErr result (present.new ≡ present.old) }
     ensures member { present.new < plan.now.members }
     ensures room { OnOk result ((n : ℕ) → G.room group.old (n + 9) → G.room group.new n) }
     ensures same { TakesTheSame (G.takes group.old) (G.takes group.new) }
 {
-    match offer {
-        Some(offer) => {
-            group.announce(&offer);
-            let ticket = entry.ticket;
-            let tries = &mut entry.tries;
-            deliver(alloc, plan, group, present, queue, offer, ticket, tries)
-        }
-        None => Ok(()),
+    group.announce(&offer);
+    if plan.rolls_over() {
+        let tries = deliver_from(alloc, plan, group, present, home, offer)?;
+        return Ok(tries);
     }
+    TryList::of_put(alloc, group, home, offer)
 }
 
-/// Passes an untagged frame through reassembly.
+/// Takes the tag out of a frame, and returns whether it then has a link header. Its caller hands
+/// the frame on whole, and so it isn't inlined there.
+#[inline(never)]
+fn untag_arrival(frame: &mut Frame) -> bool
+    requires bare { frame.old.tag ≡ None }
+    requires whole { length frame.old.bytes ≤ frame.old.wire }
+    ensures untagged { frame.new ≡ untagged frame.old }
+    ensures header { IsTrue result ↔ (14 ≤ length frame.new.bytes) }
+{
+    untag(frame);
+    frame.bytes.len() >= LINK_HEADER
+}
+
+/// Passes an untagged frame through reassembly, and returns what arrives with it.
+#[inline(never)]
 fn push(reassembly: &mut Defrag, frame: Frame) -> Result<Option<Frame>, Memory>
     requires untagged { IsUntagged frame }
     requires all_untagged { All IsUntagged reassembly.old }
-    ensures whole { IfOk result (λ whole. whole ≡ (pass reassembly.old frame).whole) }
+    ensures arrival { IfOk result (λ arrival.
+        arrival ≡ no_runt (pass reassembly.old frame).whole) }
     ensures held { OnOk result (reassembly.new ≡ (pass reassembly.old frame).held) }
-    ensures sound { IfOk result (λ whole. IfSome whole IsUntagged) }
-    ensures place { IfOk result (λ whole. IfSome whole (HasPlaceOf frame)) }
+    ensures sound { IfOk result (λ arrival. IfSome arrival IsArrival) }
+    ensures place { IfOk result (λ arrival. IfSome arrival (HasPlaceOf frame)) }
     ensures all_untagged { All IsUntagged reassembly.new }
     ensures err { OnErr result (reassembly.new ≡ reassembly.old) }
 {
     match reassembly.push(frame) {
-        Ok(step) => Ok(step.whole),
+        Ok(step) => Ok(without_runt(step.whole)),
         Err(_) => Err(Memory),
     }
 }

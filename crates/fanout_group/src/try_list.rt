@@ -111,6 +111,29 @@ impl TryList {
         Ok(back)
     }
 
+    /// Gives an offer to a member of a desk, which keeps it or drops it, and lists that one try. It
+    /// takes no memory of its own.
+    #[inline(always)]
+    pub(crate) fn of_put<D: Desk>(
+        alloc: Global,
+        desk: &mut D,
+        member: u32,
+        offer: Offer,
+    ) -> Result<TryList, Memory>
+        requires takes { D.takes desk.old member offer }
+        requires room { D.room desk.old 1 }
+        ensures put { IfOk result (λ list. IsPut member list) }
+        ensures made { IfOk result (λ list. D.made offer list desk.old desk.new) }
+        ensures room { OnOk result ((n : ℕ) → D.room desk.old (n + 1) → D.room desk.new n) }
+        ensures err { OnErr result (D.made offer [] desk.old desk.new) }
+        ensures same { TakesTheSame (D.takes desk.old) (D.takes desk.new) }
+    {
+        let made = put_once(desk, member, offer)?;
+        Ok(TryList {
+            tries: SmallVec::from_buf(alloc, [made]),
+        })
+    }
+
     /// Gives an offer to a member of a desk, which keeps it or drops it. Memory for the try is
     /// reserved first.
     #[inline(always)]
@@ -130,12 +153,28 @@ impl TryList {
         ensures same { TakesTheSame (D.takes desk.old) (D.takes desk.new) }
     {
         self.tries.reserve(1)?;
-        let fate = match desk.put(member, offer) {
-            Ok(Put::Kept) => Fate::Kept,
-            Ok(Put::Dropped(_)) => Fate::Dropped,
-            Err(_) => return Err(Memory),
-        };
-        self.tries.push_reserved(Try { member, fate });
+        let made = put_once(desk, member, offer)?;
+        self.tries.push_reserved(made);
         Ok(())
     }
+}
+
+/// Gives an offer to a member of a desk, which keeps it or drops it: one try, which settles where
+/// the packet goes.
+#[inline(always)]
+fn put_once<D: Desk>(desk: &mut D, member: u32, offer: Offer) -> Result<Try, Memory>
+    requires takes { D.takes desk.old member offer }
+    requires room { D.room desk.old 1 }
+    ensures put { IfOk result (λ made. IsPut member (made ∷ [])) }
+    ensures made { IfOk result (λ made. D.made offer (made ∷ []) desk.old desk.new) }
+    ensures room { OnOk result ((n : ℕ) → D.room desk.old (n + 1) → D.room desk.new n) }
+    ensures err { OnErr result (D.made offer [] desk.old desk.new) }
+    ensures same { TakesTheSame (D.takes desk.old) (D.takes desk.new) }
+{
+    let fate = match desk.put(member, offer) {
+        Ok(Put::Kept) => Fate::Kept,
+        Ok(Put::Dropped(_)) => Fate::Dropped,
+        Err(_) => return Err(Memory),
+    };
+    Ok(Try { member, fate })
 }
