@@ -1,19 +1,20 @@
 //! A ring that frames are put into: its machine, and the notes of what happened.
 ghost use Rattle.std.specs.Prelude.{◌≡◌, ◌+◌, ◌^◌, ◌<◌, ◌≤◌, ◌≢◌, ◌↔◌, ◌∷◌, ◌++◌, ℕ, [], length};
-ghost use Rattle.std.specs.Prelude.{IsOk, IfOk, IfErr, OnOk, OnErr, Err};
+ghost use Rattle.std.specs.Prelude.{IsOk, IfOk, IfErr, OnOk, OnErr, Err, vec_capacity};
 ghost use Rattle.ring_model.specs.KnownReleases.{put_by, try_by};
 ghost use Rattle.ring_model.specs.Told.{put_told, try_told};
 ghost use Rattle.ring_model.specs.Fates.{stats_of};
 ghost use Rattle.ring_model.specs.Ring.{IsWholeRun, state_of};
+ghost use Rattle.ring_model.specs.Sizes.{need_of};
 ghost use Rattle.ring_model.specs.declared.notes.Found.{Found};
-ghost use Rattle.ring_model.specs.declared.notes.Note.TheVariants.{Counted, Finished};
+ghost use Rattle.ring_model.specs.declared.notes.Note.TheVariants.{Counted, Dropped, Finished};
 ghost use Rattle.tp_layout.specs.Requests.{room_of, size_of};
 ghost use Rattle.tp_layout.specs.BlockWrites.{IsWritable};
 
 use crate::TickError;
 use crate::machine::Machine;
 use frame_view::Memory;
-use ring_model::{Note, Notes, Offer, Put, Stats, Tried, Unput, noted_put, noted_try};
+use ring_model::{Found, Note, Notes, Offer, Put, Stats, Tried, Unput, need, noted_try};
 use ring_words::FeederEnd;
 use std::alloc::Global;
 use std::marker::Model;
@@ -121,9 +122,7 @@ impl<E: FeederEnd<Block> + Drop> Producer<E> {
         };
         a_shape_is_sound(&self.machine.shape);
         let found = self.machine.put(&offer);
-        let (note, put) = noted_put(offer, found);
-        self.machine.notes.push_reserved(note);
-        Ok(put)
+        Ok(note_put(&mut self.machine.notes, offer, found))
     }
 
     /// Brings the clock forward to a moment, in milliseconds. At the deadline an open block that
@@ -179,5 +178,42 @@ impl<E: FeederEnd<Block> + Drop> Producer<E> {
         let (end, mut notes) = self.machine.finish();
         notes.push_reserved(Note::Finished);
         (end, Notes::from_vec(notes))
+    }
+}
+
+/// Notes a packet that was put, by what was found for it, and returns what the put reports.
+#[inline(always)]
+fn note_put(notes: &mut Vec<Note>, offer: Offer, found: Found) -> Put
+    requires snap { offer.snap ≤ 1048576 }
+    requires room { length notes.old.items < vec_capacity notes.old }
+    ensures items { notes.new.items ≡ notes.old.items ++ put_by offer found ∷ [] }
+    ensures capacity { vec_capacity notes.new ≡ vec_capacity notes.old }
+    ensures put { result ≡ put_told (put_by offer found) }
+{
+    match found {
+        Found::Held(number) => {
+            notes.push_reserved(dropped(&offer, number));
+            Put::Dropped(number)
+        }
+        found => {
+            notes.push_reserved(Note::Kept { offer, found });
+            Put::Kept
+        }
+    }
+}
+
+/// The note of a packet that is dropped. A packet that is kept is moved whole, and so this isn't
+/// inlined beside it.
+#[inline(never)]
+fn dropped(offer: &Offer, number: u64) -> Note
+    requires { offer.now.snap ≤ 1048576 }
+    ensures { result ≡ Dropped offer.now.frame.cpu offer.now.frame.index
+        (need_of offer.now.snap) number }
+{
+    Note::Dropped {
+        cpu: offer.frame.cpu,
+        index: offer.frame.index,
+        need: need(offer.snap),
+        number,
     }
 }

@@ -45,9 +45,9 @@ invariant_of-self g c =
     let clock_after = c.put-found.ensures.at.clock_is in
     kept_on g.E.FeederEnd.feed machine c.put-found.new.self machine.notes.items (put_by c.args.offer found) _ _
     c.self.invariant step
-    (goes_put c.args.offer found) looks numbers c.push_reserved.new.self c.push_reserved.new.self.items
-    (rw (c.push_reserved.ensures.items, c.put-found.ensures.same.1, c.noted_put-note.ensures.note))
-    (rw (c.push_reserved.ensures.capacity, c.put-found.ensures.same.1) (omega (arith, spare, c.in-Ok.ensures.ok)))
+    (goes_put c.args.offer found) looks numbers c.note_put.new.notes c.note_put.new.notes.items
+    (rw (c.note_put.ensures.items, c.put-found.ensures.same.1))
+    (rw (c.note_put.ensures.capacity, c.put-found.ensures.same.1) (omega (arith, spare, c.in-Ok.ensures.ok)))
     (few_after g.E.FeederEnd.feed machine c.put-found.new.self machine.notes.items (put_by c.args.offer found) step few
     (omega (arith, clock, clock_before, clock_after, c.self.invariant.few.clock)))
 
@@ -72,19 +72,19 @@ returns-clause-put g c =
     (put_looked c.args.offer found _ _ c.put-found.ensures.looked) in
     let numbers = numbers_after machine.notes.items (put_by c.args.offer found) found _ _ c.self.invariant.numbers
     c.put-found.ensures.number (put_number c.args.offer found) in
-    let pushed : c.push_reserved.new.self.items ≡ machine.notes.items ++ note ∷ [] =
-    rw (c.push_reserved.ensures.items, c.put-found.ensures.same.1, c.noted_put-note.ensures.note) in
+    let pushed : c.note_put.new.notes.items ≡ machine.notes.items ++ note ∷ [] =
+    rw (c.note_put.ensures.items, c.put-found.ensures.same.1) in
     let room = vec_capacity machine.notes in
-    let room_after = vec_capacity c.push_reserved.new.self in
-    let less = spare_less machine.notes.items c.push_reserved.new.self.items note room room_after pushed
-    (c.push_reserved.ensures.capacity ∙ ap (λ v. vec_capacity v) c.put-found.ensures.same.1) in
+    let room_after = vec_capacity c.note_put.new.notes in
+    let less = spare_less machine.notes.items c.note_put.new.notes.items note room room_after pushed
+    (c.note_put.ensures.capacity ∙ ap (λ v. vec_capacity v) c.put-found.ensures.same.1) in
     let adds = added g.E.FeederEnd.feed machine c.put-found.new.self machine.notes.items note room 0 c.self.invariant step
     (goes_put c.args.offer found) looks numbers (room - length machine.notes.items - 1)
-    (room_after - length c.push_reserved.new.self.items - 1)
-    c.push_reserved.new.self.items less pushed in
-    let puts : Puts g.E.FeederEnd.feed _ _ c.args.offer found c.noted_put-note.result.1 = record {
+    (room_after - length c.note_put.new.notes.items - 1)
+    c.note_put.new.notes.items less pushed in
+    let puts : Puts g.E.FeederEnd.feed _ _ c.args.offer found c.note_put.result = record {
       adds = adds;
-      told = c.noted_put-note.ensures.put;
+      told = c.note_put.ensures.put;
       looked = c.put-found.ensures.looked;
       count = c.put-found.ensures.count;
       number = c.put-found.ensures.number;
