@@ -39,6 +39,7 @@ impl ReceiveRing for Producer<PlainRing<Block>> {
 
     /// If the offer finds no room and no free block the open block is retired, and the ring is
     /// frozen.
+    #[inline(always)]
     fn put(&mut self, offer: Offer) -> Result<Put, Unput> {
         a_text_is_read_as_it_was_written();
         self.put(offer)
