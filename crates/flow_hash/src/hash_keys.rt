@@ -110,9 +110,9 @@ impl Key {
         requires { place < 36 }
         ensures { result ≡ toeplitz_of (bits_of (drop place self.now)) (bits_of_byte byte) }
     {
-        let row = 32 * place;
-        let upper = self.table[row + usize::from(byte / 16)];
-        let lower = self.table[row + 16 + usize::from(byte % 16)];
+        let (row, byte) = (32 * place, usize::from(byte));
+        let upper = self.table[row + byte / 16];
+        let lower = self.table[row + 16 + byte % 16];
         upper ^ lower
     }
 }

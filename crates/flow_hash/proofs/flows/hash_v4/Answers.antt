@@ -6,8 +6,8 @@ use Rattle.flow_hash.proofs.flows.hash_v4.Goals as goal
 
 pub returns : goal.returns
 returns c =
-    let part = c.args.part.now in
-    let first : c.source_first-first.result ≡ source_first part.from part.to part.ports = cc in
-    hash_of_ends c.args.key.now w32 part.from part.to 4 part.ports _ c.in_order-low.result _ _ _ _ _ first
-    c.in_order-low.ensures c.to_be_bytes.ensures c.to_be_bytes-2.ensures (ap length c.to_be_bytes.ensures) (ap length c.to_be_bytes-2.ensures)
-    c.hash_from.ensures c.hash_from-2.ensures c.hash_ports.ensures
+    let first : c.source_first-first.result ≡ source_first c.args.from c.args.to c.args.ports = cc in
+    hash_of_ends c.args.key.now w32 c.args.from c.args.to 4 c.args.ports _ c.in_order-low.result _ _ _ _ _
+    first c.in_order-low.ensures c.to_be_bytes.ensures c.to_be_bytes-2.ensures
+    (ap length c.to_be_bytes.ensures) (ap length c.to_be_bytes-2.ensures)
+    c.hash_from.ensures c.hash_from-2.ensures c.hash_ports-of_ports.ensures
