@@ -5,7 +5,9 @@ ghost use Rattle.fanout_group.specs.Arrivals.{IsArrival};
 ghost use Rattle.fanout_group.specs.Judgements.{AgreesAt, IsJudged, Lens, first_entry, hash_by};
 ghost use Rattle.fanout_group.specs.Judgements.{offer_by, verdict_by};
 ghost use Rattle.fanout_group.specs.Lenses.{lens_of};
-ghost use Rattle.frame_view.specs.Headers.{packet_type_of};
+ghost use Rattle.flow_hash.specs.FlowHash.{flow_input};
+ghost use Rattle.flow_hash.specs.Toeplitz.{hash_of};
+ghost use Rattle.frame_view.specs.Headers.{packet_type_of, view_of};
 ghost use Rattle.ring_model.specs.Offers.{IsSound, offer_of};
 ghost use Rattle.ring_model.specs.Sizes.{snap_of};
 
@@ -136,7 +138,7 @@ impl ArrivalRules<'_> {
         ensures { result ≡ hash_by (option_copied self.now.key) arrival.now }
     {
         match self.key {
-            Some(key) => flow_hash(key, &view(arrival.bytes.as_slice())),
+            Some(key) => hash_under(key, arrival.bytes.as_slice()),
             None => 0,
         }
     }
@@ -161,4 +163,12 @@ impl ArrivalRules<'_> {
         };
         verdict_with(self.filter, &seen)
     }
+}
+
+/// The flow hash of a frame. Kept out of the callers, most of which have no key.
+#[inline(never)]
+fn hash_under(key: &Key, bytes: &[u8]) -> u32
+    ensures { result ≡ hash_of key.now (flow_input (view_of bytes.now)) }
+{
+    flow_hash(key, &view(bytes))
 }
