@@ -5,14 +5,15 @@ use std::thread::Parker;
 use std::time::Duration;
 
 /// The number of polls in a row that are made without a pause; each later one comes after a sleep.
-const LOOKS: u32 = 200;
+const LOOKS: u32 = 10_000;
 
 /// How long a sleep is, in microseconds.
 const SLEEP: u64 = 50;
 
 /// How a thread that polls a lock waits between its polls. A turn mostly ends within the first
-/// polls; if it doesn't, the system has suspended the thread that has the turn, and this one
-/// sleeps, so that it takes no processor from that one.
+/// polls, and one in which the system hands out a page within some microseconds. If it lasts for
+/// 100 and more, the system has suspended the thread that has it, and this one sleeps, so that it
+/// takes no processor from that one.
 ///
 /// It never yields: with other processes running, a yield gives the processor away for a whole time
 /// slice. Both numbers are this project's own choice, and no clause says how long a thread waits.
