@@ -35,9 +35,9 @@ from second_program import save
 # The bytes of an input whose instructions are counted, and of one whose memory and time are compared.
 SIZE, LARGE = 1 << 20, 8 << 20
 # How many times the cost of the plain form one may take, of another input and of another size of a ring alone.
-DEARER, ALIKE = 3.0, 1.5
+DEARER, ALIKE = 4.0, 1.5
 # Of a form whose frames can't share memory with others, as those of a plain capture do, and of one that keeps a note for each try alone.
-UNSHARED = 4.0
+UNSHARED = 5.0
 # Below these costs a difference is that of starting a process: MiB, and seconds.
 FEW_MIB, FEW_SECONDS = 24, 0.15
 
