@@ -33,9 +33,11 @@ pub struct Frame {
     pub tag: Option<Tag>,
 }
 
-/// A packet as a reader of a ring sees it.
+/// A packet as a reader of a ring sees it. In this order its fields leave no gaps.
 #[derive(Debug, Drop)]
 pub struct Packet {
+    /// The bytes that the snap length left.
+    pub bytes: ByteList,
     /// The seconds of its time.
     pub sec: u32,
     /// The nanoseconds of its time, at most 999,999,999.
@@ -46,14 +48,12 @@ pub struct Packet {
     pub rxhash: u32,
     /// The protocol of the link layer, as a number.
     pub protocol: u16,
+    /// The tag that was taken out of its frame.
+    pub tag: Option<Tag>,
     /// 0 host, 1 broadcast, 2 multicast, 3 other host.
     pub pkttype: u8,
     /// The source address of the link layer.
     pub addr: [u8; 6],
-    /// The bytes that the snap length left.
-    pub bytes: ByteList,
-    /// The tag that was taken out of its frame.
-    pub tag: Option<Tag>,
 }
 
 impl Packet {

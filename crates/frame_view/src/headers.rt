@@ -40,6 +40,7 @@ const LEAST_TYPE: u16 = 0x0600;
 /// Reads the headers of a frame, by IEEE 802.3, RFC 791, RFC 8200 and the protocol numbers of
 /// `linux/if_ether.h`. An IP header that is cut off, or whose lengths contradict each other, leaves
 /// the frame `Plain`; its checksum isn't tested.
+#[inline(always)]
 pub fn view(bytes: &[u8]) -> Headers
     ensures { result ≡ view_of bytes.now }
 {
