@@ -5,16 +5,15 @@ ghost use Rattle.ring_model.specs.KnownReleases.{put_by, try_by};
 ghost use Rattle.ring_model.specs.Told.{put_told, try_told};
 ghost use Rattle.ring_model.specs.Fates.{stats_of};
 ghost use Rattle.ring_model.specs.Ring.{IsWholeRun, state_of};
-ghost use Rattle.ring_model.specs.Sizes.{need_of};
 ghost use Rattle.ring_model.specs.declared.notes.Found.{Found};
-ghost use Rattle.ring_model.specs.declared.notes.Note.TheVariants.{Counted, Dropped, Finished};
+ghost use Rattle.ring_model.specs.declared.notes.Note.TheVariants.{Counted, Finished};
 ghost use Rattle.tp_layout.specs.Requests.{room_of, size_of};
 ghost use Rattle.tp_layout.specs.BlockWrites.{IsWritable};
 
 use crate::TickError;
 use crate::machine::Machine;
 use frame_view::Memory;
-use ring_model::{Found, Note, Notes, Offer, Put, Stats, Tried, Unput, need, noted_try};
+use ring_model::{Found, Note, Notes, Offer, Put, Stats, Tried, Unput, noted_drop, noted_try};
 use ring_words::FeederEnd;
 use std::alloc::Global;
 use std::marker::Model;
@@ -192,28 +191,12 @@ fn note_put(notes: &mut Vec<Note>, offer: Offer, found: Found) -> Put
 {
     match found {
         Found::Held(number) => {
-            notes.push_reserved(dropped(&offer, number));
+            notes.push_reserved(noted_drop(&offer, number));
             Put::Dropped(number)
         }
         found => {
             notes.push_reserved(Note::Kept { offer, found });
             Put::Kept
         }
-    }
-}
-
-/// The note of a packet that is dropped. A packet that is kept is moved whole, and so this isn't
-/// inlined beside it.
-#[inline(never)]
-fn dropped(offer: &Offer, number: u64) -> Note
-    requires { offer.now.snap ≤ 1048576 }
-    ensures { result ≡ Dropped offer.now.frame.cpu offer.now.frame.index
-        (need_of offer.now.snap) number }
-{
-    Note::Dropped {
-        cpu: offer.frame.cpu,
-        index: offer.frame.index,
-        need: need(offer.snap),
-        number,
     }
 }

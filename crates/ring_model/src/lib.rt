@@ -16,6 +16,6 @@ pub use laws::{
     tries_may_follow,
 };
 pub use notes::{Found, Note, Notes, Offer, Put, Stats, Tried, Unput};
-pub use packet_notes::{noted_put, noted_try};
+pub use packet_notes::{noted_drop, noted_put, noted_try};
 pub use sizes::{due, need};
 pub use tally::{StatsList, Tally, tally_notes};

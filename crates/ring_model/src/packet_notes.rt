@@ -1,7 +1,9 @@
 //! The note of a packet, by what the ring found for it.
 ghost use Rattle.std.specs.Prelude.{◌≡◌, ◌≤◌};
 ghost use Rattle.ring_model.specs.KnownReleases.{put_by, try_by};
+ghost use Rattle.ring_model.specs.Sizes.{need_of};
 ghost use Rattle.ring_model.specs.Told.{put_told, try_told};
+ghost use Rattle.ring_model.specs.declared.notes.Note.TheVariants.{Dropped};
 
 use crate::sizes::need;
 use crate::{Found, Note, Offer, Put, Tried};
@@ -14,16 +16,25 @@ pub fn noted_put(offer: Offer, found: Found) -> (Note, Put)
     ensures put { result.1 ≡ put_told (put_by offer found) }
 {
     match found {
-        Found::Held(number) => {
-            let note = Note::Dropped {
-                cpu: offer.frame.cpu,
-                index: offer.frame.index,
-                need: need(offer.snap),
-                number,
-            };
-            (note, Put::Dropped(number))
-        }
+        Found::Held(number) => (noted_drop(&offer, number), Put::Dropped(number)),
         found => (Note::Kept { offer, found }, Put::Kept),
+    }
+}
+
+/// The note of a packet that is dropped, where the block or slot of this number was still the
+/// reader's. The snap length is at most 1,048,576. A packet that is kept is moved whole, and so this
+/// isn't inlined beside it.
+#[inline(never)]
+pub fn noted_drop(offer: &Offer, number: u64) -> Note
+    requires { offer.now.snap ≤ 1048576 }
+    ensures { result
+        ≡ Dropped offer.now.frame.cpu offer.now.frame.index (need_of offer.now.snap) number }
+{
+    Note::Dropped {
+        cpu: offer.frame.cpu,
+        index: offer.frame.index,
+        need: need(offer.snap),
+        number,
     }
 }
 
