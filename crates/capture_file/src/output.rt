@@ -72,14 +72,15 @@ impl<'a> Pieces for PcapPieces<'a> {
     #[tactic(auto, using(crate::proofs::Pieces::record_moved, crate::proofs::Pieces::less_left))]
     fn append_to(&mut self, buffer: &mut Vec<u8>) -> bool {
         let before = buffer.len();
+        let end = buffer.capacity();
         let mut packets = self.packets;
-        let mut rest = push_front(buffer, self.rest);
-        while rest.is_empty() && buffer.capacity() - buffer.len() >= LARGEST_START {
+        let mut rest = push_front(buffer, end, self.rest);
+        while rest.is_empty() && end - buffer.len() >= LARGEST_START {
             let Some((packet, behind)) = packets.split_first() else {
                 break;
             };
             let data = push_start(buffer, packet);
-            rest = push_front(buffer, data);
+            rest = push_front(buffer, end, data);
             packets = behind;
         }
         *self = PcapPieces { packets, rest };
@@ -87,13 +88,17 @@ impl<'a> Pieces for PcapPieces<'a> {
     }
 }
 
-/// Appends as many bytes as a buffer has room for, and returns those that are left.
-fn push_front<'a>(buffer: &mut Vec<u8>, bytes: &'a [u8]) -> &'a [u8]
+/// Appends as many bytes as a buffer takes until it has `end` of them, for which it has room, and
+/// returns those that are left.
+fn push_front<'a>(buffer: &mut Vec<u8>, end: usize, bytes: &'a [u8]) -> &'a [u8]
+    requires order { length buffer.old.items ≤ end }
+    requires room { end ≤ vec_capacity buffer.old }
     ensures moved { buffer.new.items ++ result.now ≡ buffer.old.items ++ bytes.now }
-    ensures full { 0 < length result.now → vec_capacity buffer.old ≤ length buffer.new.items }
+    ensures full { 0 < length result.now → end ≤ length buffer.new.items }
+    ensures fits { length buffer.new.items ≤ end }
     ensures room { vec_capacity buffer.old ≤ vec_capacity buffer.new }
 {
-    let room = buffer.capacity() - buffer.len();
+    let room = end - buffer.len();
     let (front, rest) = bytes.split_at(room.min(bytes.len()));
     push(buffer, front);
     rest
@@ -107,6 +112,7 @@ fn push_start<'a>(buffer: &mut Vec<u8>, packet: &'a Packet) -> &'a [u8]
     requires short { length packet.now.bytes ≤ 4294967291 }
     requires room { length buffer.old.items + 32 ≤ vec_capacity buffer.old }
     ensures moved { buffer.new.items ++ result.now ≡ buffer.old.items ++ record_text packet.now }
+    ensures fits { length buffer.new.items ≤ length buffer.old.items + 32 }
     ensures room { vec_capacity buffer.old ≤ vec_capacity buffer.new }
 {
     let header = [
@@ -124,6 +130,7 @@ fn push_start<'a>(buffer: &mut Vec<u8>, packet: &'a Packet) -> &'a [u8]
 fn push_tag<'a>(buffer: &mut Vec<u8>, packet: &'a Packet) -> &'a [u8]
     requires room { length buffer.old.items + 16 ≤ vec_capacity buffer.old }
     ensures moved { buffer.new.items ++ result.now ≡ buffer.old.items ++ frame_of packet.now }
+    ensures fits { length buffer.new.items ≤ length buffer.old.items + 16 }
     ensures room { vec_capacity buffer.old ≤ vec_capacity buffer.new }
 {
     let bytes = packet.bytes.as_slice();

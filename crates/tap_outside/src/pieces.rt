@@ -20,6 +20,7 @@ pub trait Pieces {
     fn append_to(&mut self, buffer: &mut Vec<u8>) -> bool
         requires { length buffer.old.items + 64 ≤ vec_capacity buffer.old }
         ensures moved { buffer.new.items ++ left self.new ≡ buffer.old.items ++ left self.old }
+        ensures fits { length buffer.new.items ≤ vec_capacity buffer.old }
         ensures room { vec_capacity buffer.old ≤ vec_capacity buffer.new }
         ensures some { IsTrue result → length (left self.new) < length (left self.old) }
         ensures end { result ≡ false → left self.new ≡ [] };

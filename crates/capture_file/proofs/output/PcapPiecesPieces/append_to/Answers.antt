@@ -16,5 +16,6 @@ loop-buffer-preserved c =
           c.push_front-rest-in-loop-buffer.ensures.moved,
       search rules,
       search rules,
-      All-tail short c.in-Some.packet.now c.in-Some.behind.now (subst (λ packets. All short packets) are c.loop-buffer.invariant.3),
+      search rules,
+      All-tail short c.in-Some.packet.now c.in-Some.behind.now (subst (λ packets. All short packets) are c.loop-buffer.invariant.4),
     )

@@ -9,6 +9,7 @@ abbrev pub invariant-loop-buffer : goal.invariant-loop-buffer
 invariant-loop-buffer l =
     (l.buffer.items ++ (l.rest ++ flat_map record_text l.packets) ≡ l.fn.buffer.items ++ l.fn.self)
     × (0 < length l.rest → vec_capacity l.fn.buffer ≤ length l.buffer.items)
+    × (length l.buffer.items ≤ vec_capacity l.fn.buffer)
     × (vec_capacity l.fn.buffer ≤ vec_capacity l.buffer)
     × All (λ packet. length packet.bytes ≤ 4294967291) l.packets
 
