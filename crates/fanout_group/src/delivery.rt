@@ -52,8 +52,7 @@ pub fn deliver<D: Desk>(
 {
     let (cpu, hash) = (offer.frame.cpu, offer.hash);
     let home = home(plan, *present, queue, cpu, hash, ticket);
-    make_tries(plan, desk, home, offer, tries)?;
-    *present = present_after(plan.mode(), *present, tries.as_slice());
+    deliver_at(plan, desk, present, home, offer, tries)?;
     Ok(())
 }
 
@@ -85,9 +84,38 @@ pub(crate) fn deliver_from<D: Desk>(
     ensures same { TakesTheSame (D.takes desk.old) (D.takes desk.new) }
 {
     let mut tries = TryList::new(alloc);
-    make_tries(plan, desk, home, offer, &mut tries)?;
-    *present = present_after(plan.mode(), *present, tries.as_slice());
+    deliver_at(plan, desk, present, home, offer, &mut tries)?;
     Ok(tries)
+}
+
+/// Makes the tries of a packet from its home on, at the end of a list. In mode `Rollover` the last
+/// one decides the present member.
+fn deliver_at<D: Desk>(
+    plan: &Plan,
+    desk: &mut D,
+    present: &mut u32,
+    home: u32,
+    offer: Offer,
+    tries: &mut TryList,
+) -> Result<(), Memory>
+    requires home { home < plan.now.members }
+    requires room { D.room desk.old 9 }
+    requires takes { (member : ℕ) → member < plan.now.members → D.takes desk.old member offer }
+    ensures route { OnOk result (AreListed D.made offer
+        (IsRoute (rolls_over plan.now) plan.now.members home)
+        tries.old tries.new desk.old desk.new) }
+    ensures begun { OnErr result (AreListed D.made offer
+        (IsBegun (rolls_over plan.now) plan.now.members home)
+        tries.old tries.new desk.old desk.new) }
+    ensures present { OnOk result
+        (present.new ≡ present_after plan.now.mode present.old tries.new) }
+    ensures stays { OnErr result (present.new ≡ present.old) }
+    ensures room { OnOk result ((n : ℕ) → D.room desk.old (n + 9) → D.room desk.new n) }
+    ensures same { TakesTheSame (D.takes desk.old) (D.takes desk.new) }
+{
+    make_tries(plan, desk, home, offer, tries)?;
+    *present = present_after(plan.mode(), *present, tries.as_slice());
+    Ok(())
 }
 
 /// The member that a packet is for first.

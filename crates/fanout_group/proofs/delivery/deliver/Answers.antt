@@ -1,6 +1,4 @@
-use Rattle.std.proofs.Common.{◌∙◌, ap, List}
-use Rattle.fanout_group.specs.Routes.{present_after}
-use Rattle.fanout_group.specs.declared.logs.Try.{Try}
+use Rattle.std.proofs.Common.{refl}
 use Rattle.fanout_group.proofs.Receptions.{is_delivery, still_member}
 use Rattle.fanout_group.proofs.delivery.deliver.Goals as goal
 
@@ -8,9 +6,7 @@ pub returns-clause-delivery : goal.returns-clause-delivery
 returns-clause-delivery g c =
     is_delivery g.D.Desk.made c.args.plan.now c.args.offer c.args.ticket c.args.queue c.args.present.now c.home-home.result
     c.home-home.ensures.home _ _ _ _
-    c.mode.result _ c.in_ok-make_tries.ensures.route c.mode.ensures
-    (c.present_after.ensures ∙ ap (λ (tries : List Try). present_after c.mode.result c.args.present.now tries)
-    c.as_slice.ensures)
+    c.args.plan.now.mode _ c.in_ok-deliver_at.ensures.route refl c.in_ok-deliver_at.ensures.present
 
 pub returns-clause-member : goal.returns-clause-member
 returns-clause-member g c =
