@@ -1,2 +1,3 @@
 -- What only this crate's own proofs and private functions cite.
 pub mod TryEffects
+pub mod TryForms

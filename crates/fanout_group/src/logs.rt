@@ -28,12 +28,12 @@ pub struct Try {
 pub struct ArrivalLog {
     /// The index of its frame in the capture, from 0.
     pub index: u32,
-    /// Its number among all arrivals of the group, from 0; it has one exactly in mode `Lb`.
-    pub ticket: Option<u64>,
     /// Its flow hash, 0 without a key.
     pub hash: u32,
     /// How many bytes the filter keeps at most; 0 refuses the arrival.
     pub verdict: u32,
+    /// Its number among all arrivals of the group, from 0; it has one exactly in mode `Lb`.
+    pub ticket: Option<u64>,
     /// The tries that were made with it, none if the verdict is 0.
     pub tries: TryList,
 }

@@ -1,21 +1,34 @@
 //! The tries of an arrival.
-ghost use Rattle.std.specs.Prelude.{◌≡◌, ◌+◌, ◌∷◌, ◌++◌, ◌↔◌, ℕ, [], length, option_copied};
+ghost use Rattle.std.specs.Prelude.{◌≡◌, ◌+◌, ◌<◌, ◌∷◌, ◌++◌, ◌↔◌, ℕ, [], length, option_copied};
 ghost use Rattle.std.specs.Prelude.{slice_get, IfOk, IfSome, IsTrue, OnErr, OnOk};
 ghost use Rattle.fanout_group.specs.Desks.{TakesTheSame};
 ghost use Rattle.fanout_group.specs.inside.TryEffects.{AreListed, IsNone, IsPut, IsTried};
+ghost use Rattle.fanout_group.specs.inside.TryForms.{HasRoom, tries_of};
 
 use crate::{Desk, Fate, Try};
 use frame_view::Memory;
 use ring_model::{Offer, Put, Tried};
-use smallvec::SmallVec;
 use std::alloc::Global;
 use std::marker::Model;
+use std::slice;
 
 /// Tries, in order. Contracts see their list. Nearly every arrival has one try, which is stored in
 /// the list itself: only a second one takes memory.
 #[derive(Debug, Drop)]
 pub struct TryList {
-    tries: SmallVec<Try, 1>,
+    alloc: Global,
+    tries: Tries,
+}
+
+/// Where the tries are. The list is boxed, so that an arrival's tries take 16 bytes of its log.
+#[derive(Debug, Drop)]
+enum Tries {
+    /// There are none.
+    None,
+    /// There is one, in place.
+    One(Try),
+    /// They are in memory of their own, however many they are.
+    Many(Box<Vec<Try>>),
 }
 
 impl Model for TryList {
@@ -24,7 +37,9 @@ impl Model for TryList {
 
     ghost Value = { List Try };
 
-    ghost view = { λ list. list.tries.items };
+    ghost use Rattle.fanout_group.specs.inside.TryForms.{tries_of};
+
+    ghost view = { λ list. tries_of list.tries };
 }
 
 impl TryList {
@@ -33,7 +48,8 @@ impl TryList {
         ensures { result ≡ [] }
     {
         TryList {
-            tries: SmallVec::new(alloc),
+            alloc,
+            tries: Tries::None,
         }
     }
 
@@ -41,28 +57,32 @@ impl TryList {
     pub fn len(&self) -> usize
         ensures { result ≡ length self.now }
     {
-        self.tries.len()
+        self.as_slice().len()
     }
 
     /// Whether the list is empty.
     pub fn is_empty(&self) -> bool
         ensures { IsTrue result ↔ (self.now ≡ []) }
     {
-        self.tries.is_empty()
+        self.as_slice().is_empty()
     }
 
     /// The try at a place, counted from 0. `None` exactly if the place isn't below the length.
     pub fn get(&self, at: usize) -> Option<&Try>
         ensures { option_copied result ≡ slice_get self.now at }
     {
-        self.tries.as_slice().get(at)
+        self.as_slice().get(at)
     }
 
     /// All tries, borrowed, in their order.
     pub fn as_slice(&self) -> &[Try]
         ensures { result.now ≡ self.now }
     {
-        self.tries.as_slice()
+        match &self.tries {
+            Tries::None => &[],
+            Tries::One(made) => slice::from_ref(made),
+            Tries::Many(tries) => tries.as_slice(),
+        }
     }
 
     /// Puts a try at the end. After `Memory` the list is unchanged.
@@ -70,7 +90,8 @@ impl TryList {
         ensures ok { OnOk result (self.new ≡ self.old ++ made ∷ []) }
         ensures err { OnErr result (self.new ≡ self.old) }
     {
-        self.tries.push(made)?;
+        self.tries.reserve(self.alloc)?;
+        self.tries.add(made);
         Ok(())
     }
 
@@ -79,8 +100,7 @@ impl TryList {
     pub(crate) fn reserve_exact(&mut self, more: usize) -> Result<(), Memory>
         ensures { self.new ≡ self.old }
     {
-        self.tries.reserve_exact(more)?;
-        Ok(())
+        self.tries.reserve_exact(self.alloc, more)
     }
 
     /// Tries to give an offer to a member of a desk; it comes back if the member refuses it. Memory
@@ -101,13 +121,13 @@ impl TryList {
             self.old self.new desk.old desk.new) }
         ensures same { TakesTheSame (D.takes desk.old) (D.takes desk.new) }
     {
-        self.tries.reserve(1)?;
+        self.tries.reserve(self.alloc)?;
         let (fate, back) = match desk.try_put(member, offer) {
             Ok(Tried::Kept) => (Fate::Kept, None),
             Ok(Tried::Refused(offer)) => (Fate::Refused, Some(offer)),
             Err(_) => return Err(Memory),
         };
-        self.tries.push_reserved(Try { member, fate });
+        self.tries.add(Try { member, fate });
         Ok(back)
     }
 
@@ -130,7 +150,8 @@ impl TryList {
     {
         let made = put_once(desk, member, offer)?;
         Ok(TryList {
-            tries: SmallVec::from_buf(alloc, [made]),
+            alloc,
+            tries: Tries::One(made),
         })
     }
 
@@ -152,11 +173,67 @@ impl TryList {
             self.old self.new desk.old desk.new) }
         ensures same { TakesTheSame (D.takes desk.old) (D.takes desk.new) }
     {
-        self.tries.reserve(1)?;
-        let made = put_once(desk, member, offer)?;
-        self.tries.push_reserved(made);
+        self.tries.reserve(self.alloc)?;
+        self.tries.add(put_once(desk, member, offer)?);
         Ok(())
     }
+}
+
+impl Tries {
+    ghost use Rattle.fanout_group.specs.inside.TryForms.{HasRoom, tries_of};
+
+    /// Makes room for another try. After `Memory` they are as before.
+    #[inline(always)]
+    fn reserve(&mut self, alloc: Global) -> Result<(), Memory>
+        ensures same { tries_of self.new ≡ tries_of self.old }
+        ensures room { OnOk result (HasRoom self.new) }
+    {
+        match self {
+            Tries::None => Ok(()),
+            Tries::One(_) => self.reserve_exact(alloc, 1),
+            Tries::Many(tries) => {
+                tries.reserve(1)?;
+                Ok(())
+            }
+        }
+    }
+
+    /// Makes room for n more tries, and for no more than that. After `Memory` they are as before.
+    fn reserve_exact(&mut self, alloc: Global, more: usize) -> Result<(), Memory>
+        ensures same { tries_of self.new ≡ tries_of self.old }
+        ensures room { OnOk result (0 < more → HasRoom self.new) }
+    {
+        match self {
+            Tries::None if more > 1 => *self = listed(alloc, &[], more)?,
+            Tries::One(made) if more > 0 => *self = listed(alloc, slice::from_ref(made), more)?,
+            Tries::Many(tries) => tries.reserve_exact(more)?,
+            Tries::None | Tries::One(_) => {}
+        }
+        Ok(())
+    }
+
+    /// Puts a try at the end, for which there is room.
+    #[inline(always)]
+    fn add(&mut self, made: Try)
+        requires room { HasRoom self.old }
+        ensures { tries_of self.new ≡ tries_of self.old ++ made ∷ [] }
+    {
+        match self {
+            Tries::None => *self = Tries::One(made),
+            Tries::One(_) => unreachable!(),
+            Tries::Many(tries) => tries.push_reserved(made),
+        }
+    }
+}
+
+/// Tries in memory of their own, with room for more.
+fn listed(alloc: Global, tries: &[Try], more: usize) -> Result<Tries, Memory>
+    ensures same { IfOk result (λ list. tries_of list ≡ tries.now) }
+    ensures room { IfOk result (λ list. 0 < more → HasRoom list) }
+{
+    let mut list = Vec::with_capacity(alloc, tries.len().saturating_add(more))?;
+    list.extend_from_slice(tries)?;
+    Ok(Tries::Many(Box::new(alloc, list)?))
 }
 
 /// Gives an offer to a member of a desk, which keeps it or drops it: one try, which settles where
