@@ -2,11 +2,19 @@
 """Which crate and which of its parts takes the gate's time.
 
     gate_times.py --watch OUT [PID]   samples the prover's processes each second, and writes to OUT what each took so far
-    gate_times.py --table OUT         prints a table of it: of each crate its own proof, its tests' proof, the second check
-                                      that its edits begin with, and the edits
+    gate_times.py --table OUT         prints a table of it: of each crate its own proof, its tests' proof, the first of its
+                                      edits, the others, and the check of the crate that ends them
 
-Start the watch beside `rt ci`. With a PID it counts the processes below that one alone, and ends with it; without one it counts
-every process of the prover on the machine, and ends when it is interrupted.
+The gate prints no times, so start the watch beside it, and keep its table in bench/results:
+
+    rt ci > gate.log & python3 bench/gate_times.py --watch gate.json $!
+    python3 bench/gate_times.py --table gate.json
+
+With a PID it counts the processes below that one alone, and ends with it; without one it counts every process of the prover on
+the machine, and ends when it is interrupted.
+
+Each edit of a crate is tried over what those before it proved, so the first takes about as long as the crate's proof. Two or
+more end with a check of the crate itself over the same.
 
 Times are seconds of one processor, for user and system. A process that ends between two samples is counted up to the last one,
 so a check falls short by a second at most, and one of less than a second may be missing. Memory is the largest resident size
@@ -26,16 +34,16 @@ import time
 from typing import NamedTuple
 
 PROVER = "rattle"
-PARTS = ["proof", "tests", "seed", "edits"]
+PARTS = ["proof", "tests", "first edit", "edits", "last check"]
 TICK = os.sysconf("SC_CLK_TCK")
 
 
-
 class Seen(NamedTuple):
-    """What a process of the prover took until now."""
+    """What a process of the prover took until now, and when it began, in ticks since the machine did."""
 
     crate: str
     part: str
+    begun: int
     seconds: float
     kib: int
 
@@ -59,11 +67,11 @@ def top_of(pid: int) -> str:
 
 @functools.lru_cache(maxsize=None)
 def part_of(pid: int, begun: str, folder: str, crate: str, above: str) -> str:
-    """What a check in a copy of a crate is for. The one that the edits begin with has the crate's own files."""
+    """What a check in a copy of a crate is for. The one that ends the edits has the crate's own files."""
     own, copy = f"{above}/crates/{crate}/src", f"{folder}/src"
     try:
         names = [os.path.relpath(f"{at}/{name}", own) for at, _, names in os.walk(own) for name in names]
-        return "edits" if any(filecmp.cmpfiles(own, copy, names, shallow=False)[1:]) else "seed"
+        return "edits" if any(filecmp.cmpfiles(own, copy, names, shallow=False)[1:]) else "last check"
     except OSError:
         return "edits"
 
@@ -80,7 +88,7 @@ def seen_of(pid: int, fields: list[str]) -> Seen | None:
         part = part_of(pid, fields[19], folder, crate, top_of(pid))
     peak = next((line.split()[1] for line in text_of(pid, "status").splitlines() if line.startswith("VmHWM")), "0")
     seconds = (int(fields[11]) + int(fields[12])) / TICK
-    return Seen(crate, part, seconds, int(peak))
+    return Seen(crate, part, int(fields[19]), seconds, int(peak))
 
 
 def sample(seen: dict[str, Seen], top: int | None) -> bool:
@@ -132,12 +140,16 @@ def table(path: str) -> None:
         told = json.load(file)
     took: dict[str, dict[str, float]] = collections.defaultdict(lambda: collections.defaultdict(float))
     peak: dict[str, int] = collections.defaultdict(int)
-    for crate, part, seconds, kib in told["processes"]:
+    edited = set()
+    for crate, part, _, seconds, kib in sorted(told["processes"], key=lambda it: it[2]):
+        if part == "edits" and crate not in edited:
+            edited.add(crate)
+            part = "first edit"
         took[crate][part] += seconds
         took["all"][part] += seconds
         peak[crate], peak["all"] = max(peak[crate], kib), max(peak["all"], kib)
-    print("| Crate | Proof, s | Tests, s | Second check, s | Edits, s | All, s | Memory, MiB |")
-    print("|---|---|---|---|---|---|---|")
+    print("| Crate | Proof, s | Tests, s | First edit, s | Other edits, s | Last check, s | All, s | Memory, MiB |")
+    print("|---|---|---|---|---|---|---|---|")
     for crate, parts in sorted(took.items(), key=lambda it: (it[0] != "all", sum(it[1].values())), reverse=True):
         times = " | ".join(f"{parts[part]:,.0f}" for part in PARTS)
         print(f"| {crate} | {times} | {sum(parts.values()):,.0f} | {peak[crate] / 1024:,.0f} |")
