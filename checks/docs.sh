@@ -1,6 +1,7 @@
 #!/usr/bin/env bash
 # The documents: each word, line and status of the program is in docs/reference.md, each command of README.md and docs/guide.md prints
-# what stands below it, links lead somewhere, names of code are names of the sources, and docs/definitions.md is what they give.
+# what stands below it, links lead somewhere, names of code are names of the sources, and docs/definitions.md
+# and the table of crates in CONTRIBUTING.md are what they give.
 set -u
 . "$(dirname "${BASH_SOURCE[0]}")/common.bash"
 wants python3
@@ -8,6 +9,7 @@ for what in words links names; do
     python3 -B checks/docs.py "$what" || wrong "$what of the documents"
 done
 python3 -B checks/definitions.py || wrong "docs/definitions.md"
+python3 -B checks/crates_above.py || wrong "the crates above each in CONTRIBUTING.md"
 find_programs
 make_room
 # tcpdump gives up its rights before it writes, where root runs it.
