@@ -1,26 +1,12 @@
 -- The damage of a capture is never a cut.
-use Rattle.std.proofs.Common.{◌≡◌, ℕ, ◌-◌, List, [], take, sym, ap, ◌∙◌, inl, inr}
-use Rattle.std.specs.Prelude.{◌≢◌, ◌==◌, if◌then◌else◌, Bool, true, false, slice_get, Option, None, Some, Result, Ok, Err}
-use Rattle.std.specs.Prelude.{length, nat_lt}
-use Rattle.std.proofs.lemmas.Bool.{cases_Bool}
-use Rattle.frame_view.specs.declared.frames.Frame.{Frame}
-use Rattle.pcapng_blocks.specs.declared.byte_order.Order.{Order}
-use Rattle.pcapng_blocks.specs.declared.error.BlockError.{BlockError}
-use Rattle.pcapng_blocks.specs.declared.error.BlockError.TheVariants.{Truncated}
-use Rattle.pcapng_blocks.specs.declared.heads.Head.{Head}
-use Rattle.pcapng_blocks.specs.declared.heads.Kind.{Kind}
+use Rattle.pcapng_blocks.proofs.Names.{◌≡◌, ℕ, ◌-◌, List, [], take, sym, ap, ◌∙◌, inl, inr, ◌≢◌, ◌==◌, if◌then◌else◌, Bool}
+use Rattle.pcapng_blocks.proofs.Names.{true, false, slice_get, Option, None, Some, Result, Ok, Err, length, nat_lt, cases_Bool}
+use Rattle.pcapng_blocks.proofs.Names.{Frame, Order, BlockError, Truncated, Head, Kind, Look, Short, Bad, Headed, Interface}
+use Rattle.pcapng_blocks.proofs.Names.{Captured, Meaning, Fault, number_at, kind_of, head_size, length_fits, order_of, headed}
+use Rattle.pcapng_blocks.proofs.Names.{look_as, look_at, captured_fits, packet_by, enhanced, simple, body_of, meaning_of, Spot}
+use Rattle.pcapng_blocks.proofs.Names.{Reached, front_told, front_by, front_of, split_from, counted, origin, reached_in}
+use Rattle.pcapng_blocks.proofs.Names.{damage_of}
 use Rattle.pcapng_blocks.specs.declared.heads.Kind.TheVariants as kinds
-use Rattle.pcapng_blocks.specs.declared.heads.Look.{Look}
-use Rattle.pcapng_blocks.specs.declared.heads.Look.TheVariants.{Short, Bad, Headed}
-use Rattle.pcapng_blocks.specs.declared.interfaces.Interface.{Interface}
-use Rattle.pcapng_blocks.specs.declared.bodies.Captured.{Captured}
-use Rattle.pcapng_blocks.specs.declared.bodies.Meaning.{Meaning}
-use Rattle.pcapng_blocks.specs.declared.fronts.Front.TheVariants.{Fault}
-use Rattle.pcapng_blocks.specs.Numbers.{number_at}
-use Rattle.pcapng_blocks.specs.Heads.{kind_of, head_size, length_fits, order_of, headed, look_as, look_at}
-use Rattle.pcapng_blocks.specs.Bodies.{captured_fits, packet_by, enhanced, simple, body_of, meaning_of}
-use Rattle.pcapng_blocks.specs.Blocks.{Spot, Reached, front_told, front_by, front_of, split_from}
-use Rattle.pcapng_blocks.specs.Capture.{counted, origin, reached_in, damage_of}
 use Rattle.pcapng_blocks.proofs.Splits.{by_blocks}
 use Rattle.pcapng_blocks.proofs.Outcomes.{failed, large, fine, stage_is}
 

@@ -1,19 +1,9 @@
 -- The decoder that a feed leaves.
-use Rattle.std.proofs.Common.{◌≡◌, Bool, true, false, ℕ, ◌+◌, ◌-◌, ◌≤◌, List, [], ◌++◌, length, take, drop, refl, sym, ap}
-use Rattle.std.proofs.Common.{subst, ◌∙◌, arith}
-use Rattle.std.specs.Prelude.{min, nat_lt, Option, None}
-use Rattle.std.proofs.lemmas.List.{length-append, length-take, take_min}
-use Rattle.frame_view.specs.declared.frames.Frame.{Frame}
-use Rattle.pcapng_blocks.specs.declared.error.BlockError.{BlockError}
-use Rattle.pcapng_blocks.specs.declared.block_reader.Cursor.{Cursor}
-use Rattle.pcapng_blocks.specs.declared.block_reader.Held.{Held}
-use Rattle.pcapng_blocks.specs.declared.block_reader.Progress.{Progress}
-use Rattle.pcapng_blocks.specs.declared.stage.Stage.{Stage}
+use Rattle.pcapng_blocks.proofs.Names.{◌≡◌, Bool, true, false, ℕ, ◌+◌, ◌-◌, ◌≤◌, List, [], ◌++◌, length, take, drop, refl, sym}
+use Rattle.pcapng_blocks.proofs.Names.{ap, subst, ◌∙◌, arith, min, nat_lt, Option, None, length-append, length-take, take_min}
+use Rattle.pcapng_blocks.proofs.Names.{Frame, BlockError, Cursor, Held, Progress, Stage, Spot, counted, damage_of, spot_of}
+use Rattle.pcapng_blocks.proofs.Names.{Feeds, IsKept, IsSoundAt, stage_with, error_of, stage_of, Represents, DecoderValue}
 use Rattle.pcapng_blocks.specs.declared.stage.Stage.TheVariants as stages
-use Rattle.pcapng_blocks.specs.Blocks.{Spot}
-use Rattle.pcapng_blocks.specs.Capture.{counted, damage_of}
-use Rattle.pcapng_blocks.specs.Feeds.{spot_of, Feeds, IsKept, IsSoundAt}
-use Rattle.pcapng_blocks.specs.Decoders.{stage_with, error_of, stage_of, Represents, DecoderValue}
 use Rattle.pcapng_blocks.proofs.Outcomes.{Settles, settles, damage_is_error}
 
 -- what a feed leaves, by its steps: what was taken of the piece, and the stage with what is beyond

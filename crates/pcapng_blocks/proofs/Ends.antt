@@ -1,20 +1,10 @@
 -- How a capture ends, by the stage of its decoder.
-use Rattle.std.proofs.Common.{◌≡◌, ℕ, ◌+◌, ◌≤◌, ◌<◌, Bool, eqb, List, [], length, refl, sym, ap, ◌∙◌, inl, inr, arith}
-use Rattle.std.specs.Prelude.{◌≢◌, None, Some}
-use Rattle.std.proofs.lemmas.Bool.{cases_Bool, cases_lt, le-ltb, lt-ltb, eqb-true, eqb-false}
-use Rattle.std.proofs.lemmas.List.{length-take}
-use Rattle.pcapng_blocks.specs.declared.byte_order.Order.TheVariants.{Little}
-use Rattle.pcapng_blocks.specs.declared.error.BlockError.{BlockError}
-use Rattle.pcapng_blocks.specs.declared.error.BlockError.TheVariants.{Truncated}
-use Rattle.pcapng_blocks.specs.declared.heads.Look.{Look}
-use Rattle.pcapng_blocks.specs.declared.heads.Look.TheVariants.{Short, Bad, Headed}
-use Rattle.pcapng_blocks.specs.declared.stage.Stage.{Stage}
+use Rattle.pcapng_blocks.proofs.Names.{◌≡◌, ℕ, ◌+◌, ◌≤◌, ◌<◌, Bool, eqb, List, [], length, refl, sym, ap, ◌∙◌, inl, inr, arith}
+use Rattle.pcapng_blocks.proofs.Names.{◌≢◌, None, Some, cases_Bool, cases_lt, le-ltb, lt-ltb, eqb-true, eqb-false, length-take}
+use Rattle.pcapng_blocks.proofs.Names.{Little, BlockError, Truncated, Look, Short, Bad, Headed, Stage, look_at, is_skipped}
+use Rattle.pcapng_blocks.proofs.Names.{Spot, counted, origin, reached_in, stop_of, damage_of, end_of, waiting, rest_in, IsKept}
+use Rattle.pcapng_blocks.proofs.Names.{IsPart, IsSoundAt, stage_of, kept_of, end_at, Represents}
 use Rattle.pcapng_blocks.specs.declared.stage.Stage.TheVariants as stages
-use Rattle.pcapng_blocks.specs.Heads.{look_at, is_skipped}
-use Rattle.pcapng_blocks.specs.Blocks.{Spot}
-use Rattle.pcapng_blocks.specs.Capture.{counted, origin, reached_in, stop_of, damage_of, end_of}
-use Rattle.pcapng_blocks.specs.Feeds.{waiting, rest_in, IsKept, IsPart, IsSoundAt}
-use Rattle.pcapng_blocks.specs.Decoders.{stage_of, kept_of, end_at, Represents}
 use Rattle.pcapng_blocks.proofs.HeadLooks.{look_at-there, look_head}
 use Rattle.pcapng_blocks.proofs.FrontBlocks.{front_bad, front_empty, part_short}
 use Rattle.pcapng_blocks.proofs.Splits.{split_part, accounts}

@@ -1,26 +1,12 @@
 -- A capture that begins with a section header: its first block, and how many frames there are.
-use Rattle.std.proofs.Common.{◌≡◌, ℕ, ◌+◌, ◌-◌, ◌*◌, ◌≤◌, ◌<◌, List, [], length, take, drop, refl, sym, ap, ◌∙◌, inl, inr}
-use Rattle.std.proofs.Common.{arith}
-use Rattle.std.specs.Prelude.{◌==◌, if◌then◌else◌, Bool, true, false, Option, None, Some, Result, Ok, Err}
-use Rattle.std.proofs.lemmas.Bool.{cases_Bool, cases_lt, le-ltb, lt-ltb}
-use Rattle.std.proofs.lemmas.List.{length-take}
-use Rattle.pcapng_blocks.specs.declared.byte_order.Order.{Order}
-use Rattle.pcapng_blocks.specs.declared.byte_order.Order.TheVariants.{Little}
-use Rattle.pcapng_blocks.specs.declared.error.BlockError.{BlockError}
-use Rattle.pcapng_blocks.specs.declared.heads.Head.{Head}
-use Rattle.pcapng_blocks.specs.declared.heads.Kind.{Kind}
+use Rattle.pcapng_blocks.proofs.Names.{◌≡◌, ℕ, ◌+◌, ◌-◌, ◌*◌, ◌≤◌, ◌<◌, List, [], length, take, drop, refl, sym, ap, ◌∙◌, inl}
+use Rattle.pcapng_blocks.proofs.Names.{inr, arith, ◌==◌, if◌then◌else◌, Bool, true, false, Option, None, Some, Result, Ok, Err}
+use Rattle.pcapng_blocks.proofs.Names.{cases_Bool, cases_lt, le-ltb, lt-ltb, length-take, Order, Little, BlockError, Head, Kind}
+use Rattle.pcapng_blocks.proofs.Names.{Headed, Interface, Meaning, Front, Part, Fault, Block, number_at, kind_of, head_size}
+use Rattle.pcapng_blocks.proofs.Names.{length_fits, order_of, headed, look_as, look_at, IsHead, body_of, meaning_of, Spot}
+use Rattle.pcapng_blocks.proofs.Names.{front_of, split_from, counted, origin, reached_in, frames_of}
 use Rattle.pcapng_blocks.specs.declared.heads.Kind.TheVariants as kinds
-use Rattle.pcapng_blocks.specs.declared.heads.Look.TheVariants.{Headed}
-use Rattle.pcapng_blocks.specs.declared.interfaces.Interface.{Interface}
-use Rattle.pcapng_blocks.specs.declared.bodies.Meaning.{Meaning}
 use Rattle.pcapng_blocks.specs.declared.bodies.Meaning.TheVariants as meanings
-use Rattle.pcapng_blocks.specs.declared.fronts.Front.{Front}
-use Rattle.pcapng_blocks.specs.declared.fronts.Front.TheVariants.{Part, Fault, Block}
-use Rattle.pcapng_blocks.specs.Numbers.{number_at}
-use Rattle.pcapng_blocks.specs.Heads.{kind_of, head_size, length_fits, order_of, headed, look_as, look_at, IsHead}
-use Rattle.pcapng_blocks.specs.Bodies.{body_of, meaning_of}
-use Rattle.pcapng_blocks.specs.Blocks.{Spot, front_of, split_from}
-use Rattle.pcapng_blocks.specs.Capture.{counted, origin, reached_in, frames_of}
 use Rattle.pcapng_blocks.proofs.FrontBlocks.{front_block}
 use Rattle.pcapng_blocks.proofs.Splits.{split_part, split_fault, split_block, accounts}
 

@@ -1,29 +1,15 @@
 -- The numbers of each frame of a list of bytes have 32 bits.
-use Rattle.std.proofs.Common.{◌≡◌, ℕ, ◌+◌, ◌-◌, ◌^◌, ◌<◌, List, [], ◌∷◌, ◌++◌, length, get_or, take, drop, inl, inr, arith}
-use Rattle.std.specs.Prelude.{◌==◌, if◌then◌else◌, Bool, true, false, slice_get, All, Option, None, Some, Result, Ok, Err}
-use Rattle.std.specs.List.{AllByRecursion}
-use Rattle.std.proofs.lemmas.Bool.{cases_Bool, cases_lt}
-use Rattle.std.proofs.lemmas.List.{append-nil, length-take, get_or-drop, get_or-take, get_or_past, get_or_default}
+use Rattle.pcapng_blocks.proofs.Names.{◌≡◌, ℕ, ◌+◌, ◌-◌, ◌^◌, ◌<◌, List, [], ◌∷◌, ◌++◌, length, get_or, take, drop, inl, inr}
+use Rattle.pcapng_blocks.proofs.Names.{arith, ◌==◌, if◌then◌else◌, Bool, true, false, slice_get, All, Option, None, Some}
+use Rattle.pcapng_blocks.proofs.Names.{Result, Ok, Err, AllByRecursion, cases_Bool, cases_lt, append-nil, length-take}
+use Rattle.pcapng_blocks.proofs.Names.{get_or-drop, get_or-take, get_or_past, get_or_default, little_from-lt, big_from-lt}
+use Rattle.pcapng_blocks.proofs.Names.{Frame, Order, Little, Big, BlockError, Head, Kind, Interface, Captured, Meaning}
+use Rattle.pcapng_blocks.proofs.Names.{number_at, interface_of, nanoseconds, captured_fits, stamp_of, packet_of, packet_by}
+use Rattle.pcapng_blocks.proofs.Names.{enhanced, simple_size, simple, body_of, meaning_of, frame_of, frames_in, Spot, Reached}
+use Rattle.pcapng_blocks.proofs.Names.{split_from, counted, origin, reached_in, frames_of, FitsFrame}
 use Rattle.std.proofs.lemmas.List.Elements.{All-from_recursion}
-use Rattle.byteorder.specs.Numbers.{little_from-lt, big_from-lt}
-use Rattle.frame_view.specs.declared.frames.Frame.{Frame}
-use Rattle.pcapng_blocks.specs.declared.byte_order.Order.{Order}
-use Rattle.pcapng_blocks.specs.declared.byte_order.Order.TheVariants.{Little, Big}
-use Rattle.pcapng_blocks.specs.declared.error.BlockError.{BlockError}
-use Rattle.pcapng_blocks.specs.declared.heads.Head.{Head}
-use Rattle.pcapng_blocks.specs.declared.heads.Kind.{Kind}
 use Rattle.pcapng_blocks.specs.declared.heads.Kind.TheVariants as kinds
-use Rattle.pcapng_blocks.specs.declared.interfaces.Interface.{Interface}
-use Rattle.pcapng_blocks.specs.declared.bodies.Captured.{Captured}
-use Rattle.pcapng_blocks.specs.declared.bodies.Meaning.{Meaning}
 use Rattle.pcapng_blocks.specs.declared.bodies.Meaning.TheVariants as meanings
-use Rattle.pcapng_blocks.specs.Numbers.{number_at}
-use Rattle.pcapng_blocks.specs.Interfaces.{interface_of, nanoseconds}
-use Rattle.pcapng_blocks.specs.Bodies.{captured_fits, stamp_of, packet_of, packet_by, enhanced, simple_size, simple, body_of}
-use Rattle.pcapng_blocks.specs.Bodies.{meaning_of, frame_of, frames_in}
-use Rattle.pcapng_blocks.specs.Blocks.{Spot, Reached, split_from}
-use Rattle.pcapng_blocks.specs.Capture.{counted, origin, reached_in, frames_of}
-use Rattle.pcapng_blocks.specs.Laws.{FitsFrame}
 use Rattle.pcapng_blocks.proofs.FrontBlocks.{front_block}
 use Rattle.pcapng_blocks.proofs.Splits.{by_blocks}
 

@@ -1,19 +1,8 @@
 -- What bytes begin with, and what more bytes change about it.
-use Rattle.std.proofs.Common.{◌≡◌, ℕ, ◌≤◌, ◌<◌, List, ◌++◌, length, take, refl, sym, ap, ◌∙◌, inl, inr, arith}
-use Rattle.std.specs.Prelude.{◌≢◌, Result, Ok, Err}
-use Rattle.std.proofs.lemmas.Bool.{cases_lt, le-ltb, lt-ltb}
-use Rattle.std.proofs.lemmas.List.{take-append-le, length-append, length-take}
-use Rattle.pcapng_blocks.specs.declared.byte_order.Order.{Order}
-use Rattle.pcapng_blocks.specs.declared.error.BlockError.{BlockError}
-use Rattle.pcapng_blocks.specs.declared.heads.Head.{Head}
-use Rattle.pcapng_blocks.specs.declared.heads.Look.{Look}
-use Rattle.pcapng_blocks.specs.declared.heads.Look.TheVariants.{Short, Bad, Headed}
-use Rattle.pcapng_blocks.specs.declared.interfaces.Interface.{Interface}
-use Rattle.pcapng_blocks.specs.declared.bodies.Meaning.{Meaning}
-use Rattle.pcapng_blocks.specs.declared.fronts.Front.TheVariants.{Part, Fault, Block}
-use Rattle.pcapng_blocks.specs.Heads.{look_at, IsHead}
-use Rattle.pcapng_blocks.specs.Bodies.{meaning_of}
-use Rattle.pcapng_blocks.specs.Blocks.{front_told, front_behind, front_of}
+use Rattle.pcapng_blocks.proofs.Names.{◌≡◌, ℕ, ◌≤◌, ◌<◌, List, ◌++◌, length, take, refl, sym, ap, ◌∙◌, inl, inr, arith, ◌≢◌}
+use Rattle.pcapng_blocks.proofs.Names.{Result, Ok, Err, cases_lt, le-ltb, lt-ltb, take-append-le, length-append, length-take}
+use Rattle.pcapng_blocks.proofs.Names.{Order, BlockError, Head, Look, Short, Bad, Headed, Interface, Meaning, Part, Fault}
+use Rattle.pcapng_blocks.proofs.Names.{Block, look_at, IsHead, meaning_of, front_told, front_behind, front_of}
 use Rattle.pcapng_blocks.proofs.HeadLooks.{look_at-append, look_at-short, look_head}
 use Rattle.pcapng_blocks.proofs.Told.{IsTold, meaning_told}
 

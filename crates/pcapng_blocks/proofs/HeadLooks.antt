@@ -1,18 +1,10 @@
 -- What the head of a block says doesn't change with the bytes after it.
-use Rattle.std.proofs.Common.{◌≡◌, ℕ, ◌+◌, ◌≤◌, ◌<◌, true, false, List, ◌++◌, length, drop, refl, inl, inr, arith}
-use Rattle.std.specs.Prelude.{◌≢◌, nat_le, if◌then◌else◌, Option, None, Some}
-use Rattle.std.proofs.lemmas.Bool.{cases_Bool, cases_lt, le-ltb, lt-ltb, leb-true, and_parts}
-use Rattle.std.proofs.lemmas.List.{drop-append-le, length-append, length-drop}
-use Rattle.byteorder.specs.Numbers.{little_from-append, big_from-append}
-use Rattle.pcapng_blocks.specs.declared.byte_order.Order.{Order}
-use Rattle.pcapng_blocks.specs.declared.byte_order.Order.TheVariants.{Little, Big}
-use Rattle.pcapng_blocks.specs.declared.heads.Head.{Head}
-use Rattle.pcapng_blocks.specs.declared.heads.Kind.{Kind}
+use Rattle.pcapng_blocks.proofs.Names.{◌≡◌, ℕ, ◌+◌, ◌≤◌, ◌<◌, true, false, List, ◌++◌, length, drop, refl, inl, inr, arith, ◌≢◌}
+use Rattle.pcapng_blocks.proofs.Names.{nat_le, if◌then◌else◌, Option, None, Some, cases_Bool, cases_lt, le-ltb, lt-ltb}
+use Rattle.pcapng_blocks.proofs.Names.{leb-true, and_parts, drop-append-le, length-append, length-drop, little_from-append}
+use Rattle.pcapng_blocks.proofs.Names.{big_from-append, Order, Little, Big, Head, Kind, Short, Headed, number_at, kind_of}
+use Rattle.pcapng_blocks.proofs.Names.{head_size, least, is_skipped, length_fits, order_of, headed, look_as, look_at, IsHead}
 use Rattle.pcapng_blocks.specs.declared.heads.Kind.TheVariants.{Section, Interface, Enhanced, Simple, Other}
-use Rattle.pcapng_blocks.specs.declared.heads.Look.TheVariants.{Short, Headed}
-use Rattle.pcapng_blocks.specs.Numbers.{number_at}
-use Rattle.pcapng_blocks.specs.Heads.{kind_of, head_size, least, is_skipped, length_fits, order_of, headed, look_as, look_at}
-use Rattle.pcapng_blocks.specs.Heads.{IsHead}
 
 -- a number doesn't depend on what comes after it
 pub number_at-append : (order : Order) (n at : ℕ) (xs ys : List ℕ) → at + n ≤ length xs

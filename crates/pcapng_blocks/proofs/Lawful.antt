@@ -1,29 +1,15 @@
 -- Laws of captures: frames grow, damage stays, and what each frame has.
-use Rattle.std.proofs.Common.{◌≡◌, ℕ, zero, suc, ◌+◌, ◌-◌, ◌*◌, ◌≤◌, ◌<◌, List, [], ◌∷◌, ◌++◌, length, take, drop, refl, sym}
-use Rattle.std.proofs.Common.{ap, subst, ◌∙◌, arith, zero-add}
-use Rattle.std.specs.Prelude.{true, slice_get, Option, None, Some, IsSome, IfSome}
-use Rattle.std.specs.List.{sum_by}
-use Rattle.std.proofs.lemmas.Bool.{lt-ltb}
-use Rattle.std.proofs.lemmas.List.{append-nil, length-append, length-drop, length-take}
+use Rattle.pcapng_blocks.proofs.Names.{◌≡◌, ℕ, zero, suc, ◌+◌, ◌-◌, ◌*◌, ◌≤◌, ◌<◌, List, [], ◌∷◌, ◌++◌, length, take, drop}
+use Rattle.pcapng_blocks.proofs.Names.{refl, sym, ap, subst, ◌∙◌, arith, zero-add, true, slice_get, Option, None, Some, IsSome}
+use Rattle.pcapng_blocks.proofs.Names.{IfSome, sum_by, lt-ltb, append-nil, length-append, length-drop, length-take, Frame}
+use Rattle.pcapng_blocks.proofs.Names.{BlockError, TooLarge, Head, Captured, Meaning, Look, Stage, frame_of, frames_in}
+use Rattle.pcapng_blocks.proofs.Names.{IsWithin, Spot, Reached, spot_after, split_from, look_at, counted, origin, reached_in}
+use Rattle.pcapng_blocks.proofs.Names.{frames_of, stop_of, skips, is_skipping, damage_of, end_of, waiting, rest_in, stage_of}
+use Rattle.pcapng_blocks.proofs.Names.{kept_of, IsPacketFrame}
 use Rattle.std.proofs.lemmas.List.Sums.{sum_by-append, sum_by-cons}
-use Rattle.frame_view.specs.declared.frames.Frame.{Frame}
-use Rattle.pcapng_blocks.specs.declared.error.BlockError.{BlockError}
-use Rattle.pcapng_blocks.specs.declared.error.BlockError.TheVariants.{TooLarge}
-use Rattle.pcapng_blocks.specs.declared.heads.Head.{Head}
-use Rattle.pcapng_blocks.specs.declared.bodies.Captured.{Captured}
-use Rattle.pcapng_blocks.specs.declared.bodies.Meaning.{Meaning}
 use Rattle.pcapng_blocks.specs.declared.bodies.Meaning.TheVariants as meanings
-use Rattle.pcapng_blocks.specs.declared.heads.Look.{Look}
 use Rattle.pcapng_blocks.specs.declared.heads.Look.TheVariants as looks
-use Rattle.pcapng_blocks.specs.declared.stage.Stage.{Stage}
 use Rattle.pcapng_blocks.specs.declared.stage.Stage.TheVariants as stages
-use Rattle.pcapng_blocks.specs.Bodies.{frame_of, frames_in, IsWithin}
-use Rattle.pcapng_blocks.specs.Blocks.{Spot, Reached, spot_after, split_from}
-use Rattle.pcapng_blocks.specs.Heads.{look_at}
-use Rattle.pcapng_blocks.specs.Capture.{counted, origin, reached_in, frames_of, stop_of, skips, is_skipping, damage_of, end_of}
-use Rattle.pcapng_blocks.specs.Feeds.{waiting, rest_in}
-use Rattle.pcapng_blocks.specs.Decoders.{stage_of, kept_of}
-use Rattle.pcapng_blocks.specs.Laws.{IsPacketFrame}
 use Rattle.pcapng_blocks.proofs.Told.{IsCapturedPacket, IsPacket}
 use Rattle.pcapng_blocks.proofs.FrontBlocks.{front_block, part_short}
 use Rattle.pcapng_blocks.proofs.Splits.{by_blocks, stop_after, Accounts, accounts, split_frames}

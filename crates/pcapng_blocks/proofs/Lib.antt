@@ -12,3 +12,4 @@ pub mod Lawful
 pub mod Firsts
 pub mod Cuts
 pub mod FrameBounds
+pub mod Names

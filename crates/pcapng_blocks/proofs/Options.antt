@@ -1,11 +1,7 @@
 -- The options of an interface, one after another.
-use Rattle.std.proofs.Common.{◌≡◌, ℕ, zero, suc, ◌+◌, ◌≤◌, true, false, List, length, drop, refl, ◌∙◌, inl, inr, arith}
-use Rattle.std.specs.Prelude.{◌==◌}
-use Rattle.std.proofs.lemmas.Bool.{cases_Bool, cases_lt, le-ltb, lt-ltb}
-use Rattle.std.proofs.lemmas.List.{length-drop}
-use Rattle.pcapng_blocks.specs.declared.byte_order.Order.{Order}
-use Rattle.pcapng_blocks.specs.Numbers.{number_at, padded}
-use Rattle.pcapng_blocks.specs.Interfaces.{begins_option, resolution_after, resolution_within, resolution_of}
+use Rattle.pcapng_blocks.proofs.Names.{◌≡◌, ℕ, zero, suc, ◌+◌, ◌≤◌, true, false, List, length, drop, refl, ◌∙◌, inl, inr, arith}
+use Rattle.pcapng_blocks.proofs.Names.{◌==◌, cases_Bool, cases_lt, le-ltb, lt-ltb, length-drop, Order, number_at, padded}
+use Rattle.pcapng_blocks.proofs.Names.{begins_option, resolution_after, resolution_within, resolution_of}
 
 -- what an option has
 pub record HasOption (order : Order) (bytes : List ℕ) : Type 0 where

@@ -1,27 +1,12 @@
 -- What a feed leaves: a decoder that represents all bytes, and the frames that are new.
-use Rattle.std.proofs.Common.{◌≡◌, ℕ, ◌+◌, ◌-◌, ◌≤◌, ◌<◌, Bool, true, false, List, [], ◌++◌, length, take, drop, refl, sym, ap}
-use Rattle.std.proofs.Common.{subst, ◌∙◌, inl, inr, arith}
-use Rattle.std.specs.Prelude.{nat_lt, Option, None, Some}
-use Rattle.std.proofs.Math.Seq.{take-append-add}
-use Rattle.std.proofs.lemmas.Bool.{cases_Bool, cases_lt, le-ltb, lt-ltb}
-use Rattle.std.proofs.lemmas.List.{append-nil, length-append, take_all, take-append-le}
-use Rattle.frame_view.specs.declared.frames.Frame.{Frame}
-use Rattle.pcapng_blocks.specs.declared.error.BlockError.{BlockError}
-use Rattle.pcapng_blocks.specs.declared.error.BlockError.TheVariants.{TooLarge}
-use Rattle.pcapng_blocks.specs.declared.heads.Look.{Look}
-use Rattle.pcapng_blocks.specs.declared.heads.Look.TheVariants.{Short, Bad, Headed}
-use Rattle.pcapng_blocks.specs.declared.interfaces.Interface.{Interface}
-use Rattle.pcapng_blocks.specs.declared.fronts.Front.TheVariants.{Part}
-use Rattle.pcapng_blocks.specs.declared.block_reader.Cursor.{Cursor}
-use Rattle.pcapng_blocks.specs.declared.block_reader.Held.{Held}
-use Rattle.pcapng_blocks.specs.declared.block_reader.Progress.{Progress}
-use Rattle.pcapng_blocks.specs.declared.stage.Stage.{Stage}
+use Rattle.pcapng_blocks.proofs.Names.{◌≡◌, ℕ, ◌+◌, ◌-◌, ◌≤◌, ◌<◌, Bool, true, false, List, [], ◌++◌, length, take, drop, refl}
+use Rattle.pcapng_blocks.proofs.Names.{sym, ap, subst, ◌∙◌, inl, inr, arith, nat_lt, Option, None, Some, take-append-add}
+use Rattle.pcapng_blocks.proofs.Names.{cases_Bool, cases_lt, le-ltb, lt-ltb, append-nil, length-append, take_all}
+use Rattle.pcapng_blocks.proofs.Names.{take-append-le, Frame, BlockError, TooLarge, Look, Short, Bad, Headed, Interface, Part}
+use Rattle.pcapng_blocks.proofs.Names.{Cursor, Held, Progress, Stage, look_at, is_skipped, Spot, Reached, front_of, split_from}
+use Rattle.pcapng_blocks.proofs.Names.{counted, origin, reached_in, frames_of, damage_of, spot_of, waiting, stage_at, rest_in}
+use Rattle.pcapng_blocks.proofs.Names.{Comes, Feeds, stage_with, error_of, stage_of, kept_of, Represents}
 use Rattle.pcapng_blocks.specs.declared.stage.Stage.TheVariants as stages
-use Rattle.pcapng_blocks.specs.Heads.{look_at, is_skipped}
-use Rattle.pcapng_blocks.specs.Blocks.{Spot, Reached, front_of, split_from}
-use Rattle.pcapng_blocks.specs.Capture.{counted, origin, reached_in, frames_of, damage_of}
-use Rattle.pcapng_blocks.specs.Feeds.{spot_of, waiting, stage_at, rest_in, Comes, Feeds}
-use Rattle.pcapng_blocks.specs.Decoders.{stage_with, error_of, stage_of, kept_of, Represents}
 use Rattle.pcapng_blocks.proofs.FrontBlocks.{part_short}
 use Rattle.pcapng_blocks.proofs.Splits.{accounts, go_on_by, split_append, split_frames, StopsAlike, split_alike}
 

@@ -1,24 +1,11 @@
 -- What is kept after a feed: a part of one block, within the bytes that were fed.
-use Rattle.std.proofs.Common.{◌≡◌, ℕ, ◌+◌, ◌-◌, ◌*◌, ◌≤◌, ◌<◌, true, List, [], ◌++◌, length, take, drop, refl, sym, ap, ◌∙◌}
-use Rattle.std.proofs.Common.{inl, inr, arith}
-use Rattle.std.specs.Prelude.{◌≢◌, min, Option, None, Some}
-use Rattle.std.proofs.lemmas.Bool.{cases_Bool, cases_lt}
-use Rattle.std.proofs.lemmas.List.{append-nil, length-append, length-drop, length-take, take_all, drop_all, take-take, take_at}
-use Rattle.frame_view.specs.declared.frames.Frame.{Frame}
-use Rattle.pcapng_blocks.specs.declared.error.BlockError.{BlockError}
-use Rattle.pcapng_blocks.specs.declared.heads.Head.{Head}
-use Rattle.pcapng_blocks.specs.declared.heads.Look.{Look}
-use Rattle.pcapng_blocks.specs.declared.heads.Look.TheVariants.{Short, Bad, Headed}
-use Rattle.pcapng_blocks.specs.declared.interfaces.Interface.{Interface}
-use Rattle.pcapng_blocks.specs.declared.fronts.Front.TheVariants.{Part}
-use Rattle.pcapng_blocks.specs.declared.block_reader.Progress.{Progress}
-use Rattle.pcapng_blocks.specs.declared.stage.Skip.{Skip}
-use Rattle.pcapng_blocks.specs.declared.stage.Stage.{Stage}
+use Rattle.pcapng_blocks.proofs.Names.{◌≡◌, ℕ, ◌+◌, ◌-◌, ◌*◌, ◌≤◌, ◌<◌, true, List, [], ◌++◌, length, take, drop, refl, sym, ap}
+use Rattle.pcapng_blocks.proofs.Names.{◌∙◌, inl, inr, arith, ◌≢◌, min, Option, None, Some, cases_Bool, cases_lt, append-nil}
+use Rattle.pcapng_blocks.proofs.Names.{length-append, length-drop, length-take, take_all, drop_all, take-take, take_at, Frame}
+use Rattle.pcapng_blocks.proofs.Names.{BlockError, Head, Look, Short, Bad, Headed, Interface, Part, Progress, Skip, Stage}
+use Rattle.pcapng_blocks.proofs.Names.{look_at, is_skipped, IsHead, Spot, front_of, split_from, spot_of, waiting, stage_by}
+use Rattle.pcapng_blocks.proofs.Names.{stage_at, rest_in, Comes, IsSkipping, IsPart, IsSkip, IsKept, IsSoundAt, Extends}
 use Rattle.pcapng_blocks.specs.declared.stage.Stage.TheVariants as stages
-use Rattle.pcapng_blocks.specs.Heads.{look_at, is_skipped, IsHead}
-use Rattle.pcapng_blocks.specs.Blocks.{Spot, front_of, split_from}
-use Rattle.pcapng_blocks.specs.Feeds.{spot_of, waiting, stage_by, stage_at, rest_in, Comes, IsSkipping, IsPart, IsSkip, IsKept}
-use Rattle.pcapng_blocks.specs.Feeds.{IsSoundAt, Extends}
 use Rattle.pcapng_blocks.proofs.HeadLooks.{look_at-append, look_at-there, look_head}
 use Rattle.pcapng_blocks.proofs.FrontBlocks.{part_short}
 use Rattle.pcapng_blocks.proofs.Splits.{ended, accounts}

@@ -1,17 +1,10 @@
 -- Splitting bytes into blocks, block by block and piece by piece.
-use Rattle.std.proofs.Common.{◌≡◌, ℕ, zero, suc, ◌+◌, ◌*◌, ◌≤◌, List, [], ◌++◌, length, take, drop, refl, sym, ap, subst, ◌∙◌}
-use Rattle.std.proofs.Common.{arith, append_assoc}
-use Rattle.std.specs.Prelude.{◌≢◌, Option, None, Some}
-use Rattle.std.proofs.lemmas.List.{append-nil, drop-append-le, take-append-le, length-append, length-drop}
-use Rattle.frame_view.specs.declared.frames.Frame.{Frame}
-use Rattle.pcapng_blocks.specs.declared.error.BlockError.{BlockError}
-use Rattle.pcapng_blocks.specs.declared.heads.Head.{Head}
-use Rattle.pcapng_blocks.specs.declared.bodies.Meaning.{Meaning}
+use Rattle.pcapng_blocks.proofs.Names.{◌≡◌, ℕ, zero, suc, ◌+◌, ◌*◌, ◌≤◌, List, [], ◌++◌, length, take, drop, refl, sym, ap}
+use Rattle.pcapng_blocks.proofs.Names.{subst, ◌∙◌, arith, append_assoc, ◌≢◌, Option, None, Some, append-nil, drop-append-le}
+use Rattle.pcapng_blocks.proofs.Names.{take-append-le, length-append, length-drop, Frame, BlockError, Head, Meaning, Front}
+use Rattle.pcapng_blocks.proofs.Names.{Part, Fault, Block, frames_in, IsWithin, Spot, Reached, front_of, spot_after, split_on}
+use Rattle.pcapng_blocks.proofs.Names.{split_within, split_from}
 use Rattle.pcapng_blocks.specs.declared.bodies.Meaning.TheVariants as meanings
-use Rattle.pcapng_blocks.specs.declared.fronts.Front.{Front}
-use Rattle.pcapng_blocks.specs.declared.fronts.Front.TheVariants.{Part, Fault, Block}
-use Rattle.pcapng_blocks.specs.Bodies.{frames_in, IsWithin}
-use Rattle.pcapng_blocks.specs.Blocks.{Spot, Reached, front_of, spot_after, split_on, split_within, split_from}
 use Rattle.pcapng_blocks.proofs.FrontBlocks.{front_append, front_empty, front_block}
 
 -- ---- one block

@@ -1,33 +1,16 @@
 -- The steps of a feed: the kept bytes are completed, their block is read, and then the fresh bytes.
-use Rattle.std.proofs.Common.{◌≡◌, ℕ, ◌+◌, ◌-◌, ◌≤◌, ◌<◌, true, false, List, [], ◌++◌, length, take, drop, refl, sym, ap, ◌∙◌}
-use Rattle.std.proofs.Common.{inl, inr, arith, append_assoc}
-use Rattle.std.specs.Prelude.{◌≢◌, ◌==◌, min, Option, None, Some, Ok, Err}
-use Rattle.std.proofs.Math.Seq.{drop-append-add}
-use Rattle.std.proofs.lemmas.Bool.{cases_Bool, cases_lt, eqb-true, eqb-false}
-use Rattle.std.proofs.lemmas.List.{append-nil, drop-append-le, take-append-le, take-append-drop, length-append, length-drop}
-use Rattle.std.proofs.lemmas.List.{length-take, take_all, drop_at, drop_all, drop_min, drop-take, drop-drop}
-use Rattle.frame_view.specs.declared.frames.Frame.{Frame}
-use Rattle.pcapng_blocks.specs.declared.byte_order.Order.{Order}
-use Rattle.pcapng_blocks.specs.declared.byte_order.Order.TheVariants.{Little, Big}
-use Rattle.pcapng_blocks.specs.declared.error.BlockError.{BlockError}
-use Rattle.pcapng_blocks.specs.declared.error.BlockError.TheVariants.{BadLength}
-use Rattle.pcapng_blocks.specs.declared.heads.Head.{Head}
-use Rattle.pcapng_blocks.specs.declared.heads.Kind.{Kind}
+use Rattle.pcapng_blocks.proofs.Names.{◌≡◌, ℕ, ◌+◌, ◌-◌, ◌≤◌, ◌<◌, true, false, List, [], ◌++◌, length, take, drop, refl, sym}
+use Rattle.pcapng_blocks.proofs.Names.{ap, ◌∙◌, inl, inr, arith, append_assoc, ◌≢◌, ◌==◌, min, Option, None, Some, Ok, Err}
+use Rattle.pcapng_blocks.proofs.Names.{drop-append-add, cases_Bool, cases_lt, eqb-true, eqb-false, append-nil, drop-append-le}
+use Rattle.pcapng_blocks.proofs.Names.{take-append-le, take-append-drop, length-append, length-drop, length-take, take_all}
+use Rattle.pcapng_blocks.proofs.Names.{drop_at, drop_all, drop_min, drop-take, drop-drop, Frame, Order, Little, Big, BlockError}
+use Rattle.pcapng_blocks.proofs.Names.{BadLength, Head, Kind, Short, Headed, Interface, Meaning, Part, Fault, Block, Cursor}
+use Rattle.pcapng_blocks.proofs.Names.{Skip, Stage, number_at, look_at, is_skipped, meaning_of, frames_in, Spot, Reached}
+use Rattle.pcapng_blocks.proofs.Names.{front_told, front_of, spot_after, split_from, spot_of, waiting, rest_in, Comes}
+use Rattle.pcapng_blocks.proofs.Names.{IsSkipping}
 use Rattle.pcapng_blocks.specs.declared.heads.Kind.TheVariants as kinds
-use Rattle.pcapng_blocks.specs.declared.heads.Look.TheVariants.{Short, Headed}
-use Rattle.pcapng_blocks.specs.declared.interfaces.Interface.{Interface}
-use Rattle.pcapng_blocks.specs.declared.bodies.Meaning.{Meaning}
 use Rattle.pcapng_blocks.specs.declared.bodies.Meaning.TheVariants as meanings
-use Rattle.pcapng_blocks.specs.declared.fronts.Front.TheVariants.{Part, Fault, Block}
-use Rattle.pcapng_blocks.specs.declared.block_reader.Cursor.{Cursor}
-use Rattle.pcapng_blocks.specs.declared.stage.Skip.{Skip}
-use Rattle.pcapng_blocks.specs.declared.stage.Stage.{Stage}
 use Rattle.pcapng_blocks.specs.declared.stage.Stage.TheVariants as stages
-use Rattle.pcapng_blocks.specs.Numbers.{number_at}
-use Rattle.pcapng_blocks.specs.Heads.{look_at, is_skipped}
-use Rattle.pcapng_blocks.specs.Bodies.{meaning_of, frames_in}
-use Rattle.pcapng_blocks.specs.Blocks.{Spot, Reached, front_told, front_of, spot_after, split_from}
-use Rattle.pcapng_blocks.specs.Feeds.{spot_of, waiting, rest_in, Comes, IsSkipping}
 use Rattle.pcapng_blocks.proofs.HeadLooks.{look_at-append}
 use Rattle.pcapng_blocks.proofs.FrontBlocks.{front_part, front_here}
 use Rattle.pcapng_blocks.proofs.Splits.{split_part, split_fault, split_block}

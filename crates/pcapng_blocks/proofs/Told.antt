@@ -1,20 +1,11 @@
 -- What a whole block says lies within it.
-use Rattle.std.proofs.Common.{◌≡◌, ℕ, ◌+◌, ◌-◌, ◌≤◌, Bool, true, false, List, length, inl, inr, arith}
-use Rattle.std.specs.Prelude.{◌==◌, if◌then◌else◌, slice_get, Option, None, Some, Result, Ok, Err}
-use Rattle.std.proofs.lemmas.Bool.{cases_Bool, leb-true, and_parts}
-use Rattle.pcapng_blocks.specs.declared.byte_order.Order.{Order}
-use Rattle.pcapng_blocks.specs.declared.error.BlockError.{BlockError}
-use Rattle.pcapng_blocks.specs.declared.heads.Head.{Head}
-use Rattle.pcapng_blocks.specs.declared.heads.Kind.{Kind}
+use Rattle.pcapng_blocks.proofs.Names.{◌≡◌, ℕ, ◌+◌, ◌-◌, ◌≤◌, Bool, true, false, List, length, inl, inr, arith, ◌==◌}
+use Rattle.pcapng_blocks.proofs.Names.{if◌then◌else◌, slice_get, Option, None, Some, Result, Ok, Err, cases_Bool, leb-true}
+use Rattle.pcapng_blocks.proofs.Names.{and_parts, Order, BlockError, Head, Kind, Interface, Captured, Meaning, number_at}
+use Rattle.pcapng_blocks.proofs.Names.{padded, interface_of, nanoseconds, captured_fits, stamp_of, packet_of, packet_by}
+use Rattle.pcapng_blocks.proofs.Names.{enhanced, simple_size, simple, body_of, meaning_of, IsWithin}
 use Rattle.pcapng_blocks.specs.declared.heads.Kind.TheVariants as kinds
-use Rattle.pcapng_blocks.specs.declared.interfaces.Interface.{Interface}
-use Rattle.pcapng_blocks.specs.declared.bodies.Captured.{Captured}
-use Rattle.pcapng_blocks.specs.declared.bodies.Meaning.{Meaning}
 use Rattle.pcapng_blocks.specs.declared.bodies.Meaning.TheVariants as meanings
-use Rattle.pcapng_blocks.specs.Numbers.{number_at, padded}
-use Rattle.pcapng_blocks.specs.Interfaces.{interface_of, nanoseconds}
-use Rattle.pcapng_blocks.specs.Bodies.{captured_fits, stamp_of, packet_of, packet_by, enhanced, simple_size, simple, body_of}
-use Rattle.pcapng_blocks.specs.Bodies.{meaning_of, IsWithin}
 
 -- a packet has a fraction below a second, and no more bytes than were on the wire and than 262,144
 pub record IsCapturedPacket (packet : Captured) : Type 0 where

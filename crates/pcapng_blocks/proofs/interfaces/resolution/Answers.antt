@@ -1,7 +1,4 @@
-use Rattle.std.proofs.Common.{◌≡◌, ◌+◌, true, sym, ◌∙◌, arith}
-use Rattle.std.proofs.lemmas.List.{length-drop}
-use Rattle.pcapng_blocks.specs.Interfaces.{begins_option}
-use Rattle.pcapng_blocks.specs.Numbers.{padded, number_at}
+use Rattle.pcapng_blocks.proofs.Names.{◌≡◌, ◌+◌, true, sym, ◌∙◌, arith, length-drop, begins_option, padded, number_at}
 use Rattle.pcapng_blocks.proofs.Options.{option_there, resolution-none, resolution-step}
 use Rattle.pcapng_blocks.proofs.interfaces.resolution.Goals as goal
 

@@ -1,5 +1,4 @@
-use Rattle.std.proofs.Common.{◌≡◌, length}
-use Rattle.pcapng_blocks.specs.Interfaces.{resolution_of}
+use Rattle.pcapng_blocks.proofs.Names.{◌≡◌, length, resolution_of}
 use Rattle.pcapng_blocks.proofs.interfaces.resolution.Given as goal
 
 -- what is left, read with the resolution so far, gives the resolution of all

@@ -1,10 +1,5 @@
-use Rattle.std.proofs.Common.{◌≡◌, ◌+◌, length, drop, refl, sym, ap, ◌∙◌, arith}
-use Rattle.std.specs.Prelude.{Err}
-use Rattle.std.proofs.lemmas.List.{length-append}
-use Rattle.std.proofs.lemmas.Result.{IfOk-weaker}
-use Rattle.pcapng_blocks.specs.Bodies.{meaning_of}
-use Rattle.pcapng_blocks.specs.Blocks.{Spot}
-use Rattle.pcapng_blocks.specs.Feeds.{spot_of}
+use Rattle.pcapng_blocks.proofs.Names.{◌≡◌, ◌+◌, length, drop, refl, sym, ap, ◌∙◌, arith, Err, length-append, IfOk-weaker}
+use Rattle.pcapng_blocks.proofs.Names.{meaning_of, Spot, spot_of}
 use Rattle.pcapng_blocks.proofs.Sounds.{split_sound, extends_more, extends_through}
 use Rattle.pcapng_blocks.proofs.Splits.{stop_after}
 use Rattle.pcapng_blocks.proofs.Steps.{comes_damaged, read_waits, read_fault, read_next, read_bound}

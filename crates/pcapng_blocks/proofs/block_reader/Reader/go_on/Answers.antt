@@ -1,10 +1,5 @@
-use Rattle.std.proofs.Common.{◌≡◌, ◌++◌, refl, sym, ap, ◌∙◌, arith}
-use Rattle.std.specs.Prelude.{◌≢◌}
-use Rattle.std.proofs.lemmas.List.{length-append, length-drop}
-use Rattle.std.proofs.lemmas.Result.{IfOk-weaker}
-use Rattle.pcapng_blocks.specs.declared.heads.Look.TheVariants.{Short, Bad, Headed}
-use Rattle.pcapng_blocks.specs.Heads.{look_at}
-use Rattle.pcapng_blocks.specs.Feeds.{spot_of}
+use Rattle.pcapng_blocks.proofs.Names.{◌≡◌, ◌++◌, refl, sym, ap, ◌∙◌, arith, ◌≢◌, length-append, length-drop, IfOk-weaker}
+use Rattle.pcapng_blocks.proofs.Names.{Short, Bad, Headed, look_at, spot_of}
 use Rattle.pcapng_blocks.proofs.FrontBlocks.{front_short, front_bad}
 use Rattle.pcapng_blocks.proofs.Sounds.{split_sound, head_all, head_short, head_look, head_bytes, head_within, head_skips}
 use Rattle.pcapng_blocks.proofs.Sounds.{extends_more, extends_through}

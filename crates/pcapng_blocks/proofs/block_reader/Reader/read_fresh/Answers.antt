@@ -1,6 +1,4 @@
-use Rattle.std.proofs.Common.{◌≡◌, arith}
-use Rattle.std.specs.Prelude.{None}
-use Rattle.pcapng_blocks.specs.Feeds.{spot_of}
+use Rattle.pcapng_blocks.proofs.Names.{◌≡◌, arith, None, spot_of}
 use Rattle.pcapng_blocks.proofs.Sounds.{split_sound}
 use Rattle.pcapng_blocks.proofs.Steps.{fresh_rest, fresh_fault, none_of}
 use Rattle.pcapng_blocks.proofs.block_reader.Reader.read_fresh.Goals as goal

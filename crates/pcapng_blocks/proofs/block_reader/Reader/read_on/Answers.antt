@@ -1,5 +1,4 @@
-use Rattle.std.proofs.Common.{◌+◌, length, arith}
-use Rattle.std.proofs.lemmas.Result.{IfOk-weaker}
+use Rattle.pcapng_blocks.proofs.Names.{◌+◌, length, arith, IfOk-weaker}
 use Rattle.pcapng_blocks.proofs.block_reader.Reader.read_on.Goals as goal
 
 pub returns-in-Skipping-clause-sound : goal.returns-in-Skipping-clause-sound

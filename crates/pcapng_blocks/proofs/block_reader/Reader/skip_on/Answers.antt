@@ -1,9 +1,5 @@
-use Rattle.std.proofs.Common.{◌≡◌, ◌-◌, length, drop, refl, ap, ◌∙◌, arith}
-use Rattle.std.specs.Prelude.{◌≢◌, min}
-use Rattle.std.proofs.lemmas.Result.{IfOk-weaker}
-use Rattle.pcapng_blocks.specs.declared.error.BlockError.TheVariants.{BadLength}
-use Rattle.pcapng_blocks.specs.Numbers.{number_at}
-use Rattle.pcapng_blocks.specs.Feeds.{spot_of}
+use Rattle.pcapng_blocks.proofs.Names.{◌≡◌, ◌-◌, length, drop, refl, ap, ◌∙◌, arith, ◌≢◌, min, IfOk-weaker, BadLength}
+use Rattle.pcapng_blocks.proofs.Names.{number_at, spot_of}
 use Rattle.pcapng_blocks.proofs.Sounds.{extends_more, extends_through, skip_bound}
 use Rattle.pcapng_blocks.proofs.Steps.{comes_damaged, skip_waits, skip_fault, skip_after}
 use Rattle.pcapng_blocks.proofs.block_reader.Reader.skip_on.Goals as goal

@@ -1,7 +1,4 @@
-use Rattle.std.proofs.Common.{◌≡◌, ◌+◌, drop, sym, ap, ◌∙◌, arith}
-use Rattle.pcapng_blocks.specs.declared.fronts.Front.TheVariants.{Part, Fault, Block}
-use Rattle.pcapng_blocks.specs.Blocks.{Spot, front_of}
-use Rattle.pcapng_blocks.specs.Feeds.{spot_of}
+use Rattle.pcapng_blocks.proofs.Names.{◌≡◌, ◌+◌, drop, sym, ap, ◌∙◌, arith, Part, Fault, Block, Spot, front_of, spot_of}
 use Rattle.pcapng_blocks.proofs.Sounds.{extends_through}
 use Rattle.pcapng_blocks.proofs.Splits.{split_part, split_fault, stop_after}
 use Rattle.pcapng_blocks.proofs.Steps.{splits_on}

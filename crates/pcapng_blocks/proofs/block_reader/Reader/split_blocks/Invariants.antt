@@ -1,6 +1,4 @@
-use Rattle.std.proofs.Common.{◌≡◌, ◌+◌, ◌*◌, ◌≤◌, length}
-use Rattle.pcapng_blocks.specs.Blocks.{split_from}
-use Rattle.pcapng_blocks.specs.Feeds.{spot_of, Extends}
+use Rattle.pcapng_blocks.proofs.Names.{◌≡◌, ◌+◌, ◌*◌, ◌≤◌, length, split_from, spot_of, Extends}
 use Rattle.pcapng_blocks.proofs.block_reader.Reader.split_blocks.Given as goal
 
 -- the frames so far, and those of what is left, are all

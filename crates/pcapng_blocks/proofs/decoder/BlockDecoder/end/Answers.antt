@@ -1,6 +1,4 @@
-use Rattle.std.proofs.Common.{ℕ, ◌∙◌, ap, eqb}
-use Rattle.pcapng_blocks.specs.Blocks.{Spot}
-use Rattle.pcapng_blocks.specs.Decoders.{DecoderValue}
+use Rattle.pcapng_blocks.proofs.Names.{ℕ, ◌∙◌, ap, eqb, Spot, DecoderValue}
 use Rattle.pcapng_blocks.proofs.Ends.{end_told}
 use Rattle.pcapng_blocks.proofs.decoder.BlockDecoder.end.Goals as goal
 

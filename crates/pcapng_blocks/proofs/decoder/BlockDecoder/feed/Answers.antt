@@ -1,6 +1,4 @@
-use Rattle.std.proofs.Common.{ℕ, List, drop, ap}
-use Rattle.pcapng_blocks.specs.Feeds.{spot_of}
-use Rattle.pcapng_blocks.specs.Decoders.{Represents, decoder_value, error_of}
+use Rattle.pcapng_blocks.proofs.Names.{ℕ, List, drop, ap, spot_of, Represents, decoder_value, error_of}
 use Rattle.pcapng_blocks.proofs.Outcomes.{Settles}
 use Rattle.pcapng_blocks.proofs.Decoders.{settles_here, represents_more, represents_damaged, settles_damage, no_error}
 use Rattle.pcapng_blocks.proofs.decoder.BlockDecoder.feed.Goals as goal

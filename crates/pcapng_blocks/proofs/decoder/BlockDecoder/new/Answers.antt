@@ -1,8 +1,4 @@
-use Rattle.std.proofs.Common.{ap, arith}
-use Rattle.pcapng_blocks.specs.declared.byte_order.Order.TheVariants.{Little}
-use Rattle.pcapng_blocks.specs.declared.interfaces.Interface.{Interface}
-use Rattle.std.specs.Prelude.{List}
-use Rattle.pcapng_blocks.specs.Blocks.{Spot}
+use Rattle.pcapng_blocks.proofs.Names.{ap, arith, Little, Interface, List, Spot}
 use Rattle.pcapng_blocks.proofs.Ends.{sound_new, represents_new}
 use Rattle.pcapng_blocks.proofs.decoder.BlockDecoder.new.Goals as goal
 

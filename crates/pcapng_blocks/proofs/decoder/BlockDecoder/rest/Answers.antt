@@ -1,5 +1,4 @@
-use Rattle.std.proofs.Common.{arith}
-use Rattle.pcapng_blocks.specs.Feeds.{spot_of}
+use Rattle.pcapng_blocks.proofs.Names.{arith, spot_of}
 use Rattle.pcapng_blocks.proofs.Ends.{few_kept}
 use Rattle.pcapng_blocks.proofs.decoder.BlockDecoder.rest.Goals as goal
 
