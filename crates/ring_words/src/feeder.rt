@@ -1,11 +1,15 @@
 //! The feeder's end of a ring between two threads.
-ghost use Rattle.std.specs.Prelude.{◌≡◌, ◌+◌, ◌^◌, ◌<◌, ◌≤◌, [], ◌∷◌, ◌++◌, length};
+ghost use Rattle.std.specs.Prelude.{◌≡◌, ◌+◌, ◌^◌, ◌<◌, ◌≤◌, true, [], ◌∷◌, ◌++◌};
+ghost use Rattle.std.specs.Prelude.{length};
 ghost use Rattle.ring_words.specs.Looks.{IfFree, IfHeld};
 ghost use Rattle.ring_words.specs.Rings.{IsStatus};
 
-use crate::handover::{FeederLooks, FeederStores, RingSeat, RingTable};
+use crate::handover::{FeederLooks, FeederStores, Handover, RingSeat, RingTable};
+use crate::knowledge::Known;
 use crate::{Content, FeederEnd, Next};
+use atomic_table::{Seat, Shared};
 use std::marker::Model;
+use std::snapshot::Snapshot;
 use std::sync::Arc;
 
 /// The end of a ring between two threads that fills blocks and retires them. Contracts see which
@@ -44,6 +48,28 @@ impl<B: Content + Drop> Model for TableFeeder<B> {
     ghost invariant = { λ end.
         IsSeated (arc_value end.table).shared.table_id end.seat.table_id end.places
         × KeepsFeed end.seat.me end.places end.given end.retired };
+}
+
+impl<B: Content + Drop> TableFeeder<B> {
+    /// The table of its ring. The type says under which rule it is: that of which
+    /// `table_ownership_holds` and the laws beside it speak.
+    pub fn table(&self) -> &Shared<Option<B>, Known, Snapshot<B>, Handover>
+        ensures { result.now.table_id ≡ self.now.id }
+    {
+        &self.table.shared
+    }
+
+    /// Its seat at that table: the one that knows the feeder's side, as contracts see it.
+    pub fn seat(&self) -> &Seat<Option<B>, Known>
+        ensures table { result.now.table_id ≡ self.now.id }
+        ensures feeds { result.now.me.0.feeds ≡ true }
+        ensures kind { result.now.me.0.kind ≡ self.now.kind }
+        ensures given { result.now.me.0.given ≡ self.now.given }
+        ensures retired { result.now.me.0.retired ≡ self.now.retired }
+        ensures looks { result.now.me.0.looks ≡ self.now.looks }
+    {
+        &self.seat
+    }
 }
 
 impl<B: Content + Drop> FeederEnd<B> for TableFeeder<B> {

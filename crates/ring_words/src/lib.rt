@@ -15,6 +15,8 @@ mod walker;
 pub use closing_ring::ClosingRing;
 pub use ends::{BothEnds, FeederEnd, Next, WalkerEnd};
 pub use feeder::TableFeeder;
+pub use handover::Handover;
+pub use knowledge::Known;
 pub use pending_blocks::{Pending, finish};
 pub use plain_ring::{PlainRing, ownership_holds};
 pub use ring_model::Content;

@@ -3,9 +3,12 @@ ghost use Rattle.std.specs.Prelude.{◌≡◌, ◌+◌, ◌^◌, ◌<◌, true, 
 ghost use Rattle.std.specs.Prelude.{IfNone, OnSome};
 ghost use Rattle.ring_words.specs.Rings.{IsMark};
 
-use crate::handover::{RingSeat, RingTable, WalkerLooks, WalkerStores};
+use crate::handover::{Handover, RingSeat, RingTable, WalkerLooks, WalkerStores};
+use crate::knowledge::Known;
 use crate::{Content, WalkerEnd};
+use atomic_table::{Seat, Shared};
 use std::marker::Model;
+use std::snapshot::Snapshot;
 use std::sync::{Arc, Wait};
 use std::time::Duration;
 
@@ -49,6 +52,26 @@ impl<B: Content + Drop> Model for TableWalker<B> {
 }
 
 impl<B: Content + Drop> TableWalker<B> {
+    /// The table of its ring. The type says under which rule it is: that of which
+    /// `table_ownership_holds` and the laws beside it speak.
+    pub fn table(&self) -> &Shared<Option<B>, Known, Snapshot<B>, Handover>
+        ensures { result.now.table_id ≡ self.now.id }
+    {
+        &self.table.shared
+    }
+
+    /// Its seat at that table: the one that knows the reader's side, as contracts see it.
+    pub fn seat(&self) -> &Seat<Option<B>, Known>
+        ensures table { result.now.table_id ≡ self.now.id }
+        ensures walks { result.now.me.0.walks ≡ true }
+        ensures kind { result.now.me.0.kind ≡ self.now.kind }
+        ensures taken { result.now.me.0.taken ≡ self.now.taken }
+        ensures marks { result.now.me.0.marks ≡ self.now.marks }
+        ensures visits { result.now.me.0.visits ≡ self.now.visits }
+    {
+        &self.seat
+    }
+
     /// Sleeps until the feeder retires the next block, and for no longer than `most`: what a reader
     /// does after a `take` that found none. It returns at once where that block is retired, also
     /// between its look at the word and its sleep, since the word of a retired block is odd. It may
