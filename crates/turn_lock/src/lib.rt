@@ -15,6 +15,8 @@ mod turn_seat;
 mod turns;
 
 pub use kept::Kept;
+pub use knowledge::{Knows, Opening, Place, Stage};
 pub use laws::{a_turn_adds_to_its_own, own_entries_are_in_last, the_turn_history_holds};
+pub use plays::ByTurns;
 pub use turn_lock::TurnLock;
 pub use turn_seat::TurnSeat;

@@ -1,8 +1,10 @@
 //! The lock itself.
+ghost use Rattle.std.specs.Prelude.{◌≡◌};
+
 use crate::Kept;
 use crate::knowledge::{Knows, Opening};
 use crate::plays::ByTurns;
-use atomic_table::Table;
+use atomic_table::{Shared, Table};
 use std::alloc::Global;
 use std::marker::Model;
 
@@ -28,4 +30,16 @@ impl<V: Kept> Model for TurnLock<V> {
     ghost invariant = { λ lock.
         (lock.table.shared.table_id.words ≡ 2) × (lock.table.shared.table_id.slots ≡ 1)
         × (0 < lock.table.shared.key.seats) };
+}
+
+impl<V: Kept> TurnLock<V> {
+    /// Its table. The type says that it is under the rule of which `the_turn_history_holds` speaks.
+    pub fn table(&self) -> &Shared<Option<V>, Knows<V::Entry, V::Base>, Opening<V>, ByTurns>
+        ensures table { result.now.table_id ≡ self.now.id }
+        ensures base { V.base result.now.key.value.value ≡ self.now.base }
+        ensures first { V.stored result.now.key.value.value ≡ self.now.first }
+        ensures seats { result.now.key.seats ≡ self.now.seats }
+    {
+        &self.table.shared
+    }
 }
