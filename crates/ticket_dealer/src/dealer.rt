@@ -1,7 +1,9 @@
 //! The dealer itself.
+ghost use Rattle.std.specs.Prelude.{◌≡◌};
+
 use crate::knowledge::Hand;
 use crate::plays::EachOnce;
-use atomic_table::Table;
+use atomic_table::{Shared, Table};
 use std::alloc::Global;
 use std::marker::Model;
 
@@ -32,4 +34,14 @@ impl Model for Dealer {
     ghost invariant = { λ dealer.
         (dealer.table.shared.table_id.words ≡ 2) × (dealer.table.shared.table_id.slots ≡ 0)
         × (0 < dealer.table.shared.key) × (dealer.table.shared.key ≤ 8) };
+}
+
+impl Dealer {
+    /// Its table. The type says that it is under the rule of which `the_dealing_holds` speaks.
+    pub fn table(&self) -> &Shared<(), Hand, u64, EachOnce>
+        ensures table { result.now.table_id ≡ self.now.id }
+        ensures feeders { result.now.key ≡ self.now.feeders }
+    {
+        &self.table.shared
+    }
 }

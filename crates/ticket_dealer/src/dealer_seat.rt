@@ -1,4 +1,6 @@
 //! A seat at a dealer.
+ghost use Rattle.std.specs.Prelude.{◌≡◌};
+
 use crate::knowledge::Hand;
 use atomic_table::Seat;
 use std::marker::Model;
@@ -20,4 +22,19 @@ impl Model for DealerSeat {
     ghost view = { λ seat. seat_value seat.seat };
 
     ghost invariant = { λ seat. IsSeat seat.seat };
+}
+
+impl DealerSeat {
+    /// Its seat at the dealer's table, which knows what contracts see of it.
+    pub fn seat(&self) -> &Seat<(), Hand>
+        ensures table { result.now.table_id ≡ self.now.dealer }
+        ensures one { result.now.me.0.shares ≡ 1 }
+        ensures feeders { result.now.me.0.feeders ≡ self.now.feeders }
+        ensures owes { result.now.me.0.owes ≡ self.now.owes }
+        ensures ended { result.now.me.0.ended ≡ self.now.ended }
+        ensures drawn { result.now.me.0.drawn ≡ self.now.drawn }
+        ensures live { result.now.me.0.live ≡ self.now.live }
+    {
+        &self.seat
+    }
 }

@@ -13,4 +13,6 @@ mod seat_calls;
 
 pub use dealer::Dealer;
 pub use dealer_seat::DealerSeat;
+pub use knowledge::Hand;
 pub use laws::the_dealing_holds;
+pub use plays::EachOnce;
