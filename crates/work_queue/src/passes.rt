@@ -1,4 +1,7 @@
 //! A pass of a queue.
+ghost use Rattle.std.specs.Prelude.{◌≡◌, [], ◌∷◌};
+ghost use Rattle.work_queue.specs.Logs.{log};
+ghost use Rattle.work_queue.specs.Passes.{part_of};
 
 use crate::Work;
 use crate::knowledge::Log;
@@ -24,4 +27,15 @@ impl Model for WorkPass {
     ghost view = { pass_value };
 
     ghost invariant = { IsPass };
+}
+
+impl WorkPass {
+    /// Its pass at the ruled queue, which knows what contracts see of it.
+    pub fn pass(&self) -> &SegPass<Work, Log>
+        ensures queue { result.now.web ≡ self.now.queue }
+        ensures known { result.now.me.view.client
+            ≡ log self.now.of (part_of self.now ∷ []) [] }
+    {
+        &self.pass
+    }
 }

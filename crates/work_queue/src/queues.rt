@@ -27,6 +27,14 @@ impl Model for WorkQueue {
 }
 
 impl WorkQueue {
+    /// Its ruled queue. The type says that it is under the rule of which `the_history_holds`
+    /// speaks.
+    pub fn queue(&self) -> &RuledSegQueue<Work, Log, EachOnce>
+        ensures { result.now.web ≡ self.now.id }
+    {
+        &self.queue
+    }
+
     /// Its ruled queue, and the number of its passes.
     pub(crate) fn into_parts(self) -> (RuledSegQueue<Work, Log, EachOnce>, u32)
         ensures id { result.0.web ≡ self.id }
