@@ -10,12 +10,34 @@ use std::process::Abort;
 use std::sync::Wait;
 use std::test::Fail;
 use std::thread;
-use std::thread::Threads;
+use std::thread::{Parker, Threads};
+use std::time::Duration;
+
+/// What the two threads do between their calls.
+#[derive(Clone, Copy)]
+struct Pace {
+    /// For how many microseconds at most the feeder rests before it retires a block, each time for
+    /// another part of them; 0: it doesn't rest.
+    rest: u64,
+    /// For how long at most the reader sleeps while no block is there; none: it yields.
+    sleep: Option<Duration>,
+}
+
+impl Pace {
+    /// The feeder rests before it retires the next letter.
+    fn rest<R: Wait>(&self, rt: &R, next: usize) {
+        if self.rest == 0 {
+            return;
+        }
+        let micros = next as u64 % self.rest;
+        Parker::new().park_timeout(rt, Duration::from_micros(micros));
+    }
+}
 
 /// Tries to retire the next letter, and reports how many letters were retired.
 fn fill_next(feeder: &mut TableFeeder<Letter>, letters: &[u8], next: usize) -> usize
     requires within { next < length letters.now }
-    requires few { length letters.now ≤ 1000 }
+    requires few { length letters.now ≤ 10000 }
     requires hand { feeder.old.given ≡ length feeder.old.retired }
     requires given { feeder.old.given ≤ next }
     ensures ring { feeder.new.id ≡ feeder.old.id }
@@ -31,10 +53,15 @@ fn fill_next(feeder: &mut TableFeeder<Letter>, letters: &[u8], next: usize) -> u
 }
 
 /// Retires a block for each letter.
-fn fill_all<R: Wait>(rt: &R, mut feeder: TableFeeder<Letter>, letters: &[u8]) -> TableFeeder<Letter>
+fn fill_all<R: Wait>(
+    rt: &R,
+    mut feeder: TableFeeder<Letter>,
+    letters: &[u8],
+    pace: Pace,
+) -> TableFeeder<Letter>
     requires given { feeder.given ≡ 0 }
     requires retired { feeder.retired ≡ [] }
-    requires few { length letters.now ≤ 1000 }
+    requires few { length letters.now ≤ 10000 }
     ensures ring { result.id ≡ feeder.id }
 {
     let mut next = 0;
@@ -42,21 +69,28 @@ fn fill_all<R: Wait>(rt: &R, mut feeder: TableFeeder<Letter>, letters: &[u8]) ->
         if next >= letters.len() {
             break;
         }
+        pace.rest(rt, next);
         next = fill_next(&mut feeder, letters, next);
     }
     feeder
 }
 
 /// Tries to read the next letter.
-fn read_next(walker: &mut TableWalker<Letter>, letters: &mut Vec<u8>)
+fn read_next<R: Wait>(
+    rt: &R,
+    walker: &mut TableWalker<Letter>,
+    letters: &mut Vec<u8>,
+    sleep: Option<Duration>,
+)
     requires room { vec_len letters.old < vec_capacity letters.old }
     requires hand { walker.old.in_hand ≡ false }
     ensures ring { walker.new.id ≡ walker.old.id }
     ensures hand { walker.new.in_hand ≡ false }
 {
-    match read(walker) {
-        Some(letter) => letters.push_reserved(letter),
-        None => thread::yield_now(),
+    match (read(walker), sleep) {
+        (Some(letter), _) => letters.push_reserved(letter),
+        (None, Some(most)) => walker.wait_for_block(rt, most),
+        (None, None) => thread::yield_now(),
     }
 }
 
@@ -65,6 +99,7 @@ fn read_all<R: Wait>(
     rt: &R,
     mut walker: TableWalker<Letter>,
     mut letters: Vec<u8>,
+    pace: Pace,
 ) -> (TableWalker<Letter>, Vec<u8>)
     requires hand { walker.in_hand ≡ false }
     ensures ring { result.0.id ≡ walker.id }
@@ -74,7 +109,7 @@ fn read_all<R: Wait>(
         if letters.len() >= letters.capacity() {
             break;
         }
-        read_next(&mut walker, &mut letters);
+        read_next(rt, &mut walker, &mut letters, pace.sleep);
     }
     (walker, letters)
 }
@@ -86,8 +121,9 @@ fn relay<R: Threads + Wait + Sync>(
     alloc: Global,
     all: &[u8],
     count: usize,
+    pace: Pace,
 ) -> Result<(Vec<u8>, Pending<Letter>), Memory>
-    requires few { length all.now ≤ 1000 }
+    requires few { length all.now ≤ 10000 }
 {
     let blocks = Vec::from_array(alloc, [Letter(0), Letter(0)])?;
     let letters = Vec::with_capacity(alloc, count)?;
@@ -95,13 +131,13 @@ fn relay<R: Threads + Wait + Sync>(
     let (feeder, (walker, letters)) = thread::join(
         rt,
         move || -> TableFeeder<Letter>
-            requires { (feeder.given ≡ 0) × (feeder.retired ≡ []) × (length all.now ≤ 1000) }
+            requires { (feeder.given ≡ 0) × (feeder.retired ≡ []) × (length all.now ≤ 10000) }
             ensures { result.id ≡ feeder.id }
-        { fill_all(rt, feeder, all) },
+        { fill_all(rt, feeder, all, pace) },
         move || -> (TableWalker<Letter>, Vec<u8>)
             requires { walker.in_hand ≡ false }
             ensures { (result.0.id ≡ walker.id) × (result.0.in_hand ≡ false) }
-        { read_all(rt, walker, letters) },
+        { read_all(rt, walker, letters, pace) },
     );
     let pending = finish(alloc, feeder, walker)?;
     Ok((letters, pending))
@@ -121,18 +157,71 @@ fn push_pending(
     Ok(())
 }
 
-#[test]
-fn what_one_thread_retires_another_takes(rt: HostRuntime) -> Result<(), Fail> {
-    let alloc = rt.alloc();
-    let mut all = Vec::with_capacity(alloc, 1000)?;
-    for number in 0..1000u32 {
+/// So many letters: the numbers from 0 to 255, and again.
+fn letters_of(alloc: Global, count: u32) -> Result<Vec<u8>, Memory> {
+    let mut all = Vec::with_capacity(alloc, count as usize)?;
+    for number in 0..count {
         all.push((number % 256) as u8)?;
     }
-    if all.len() > 1000 {
-        return Err("a thousand letters".into());
+    Ok(all)
+}
+
+/// What comes out of a ring at a pace is what was put in: all letters but two are read, and these
+/// are left.
+fn check_relay<R: Threads + Wait + Abort + Sync>(
+    rt: &R,
+    alloc: Global,
+    count: u32,
+    pace: Pace,
+) -> Result<(), Fail> {
+    let all = letters_of(alloc, count)?;
+    if all.len() > 10_000 {
+        return Err("at most ten thousand letters".into());
     }
-    let (mut letters, pending) = relay(&rt, alloc, all.as_slice(), 998)?;
-    push_pending(&rt, &pending, &mut letters)?;
+    let most = all.len().saturating_sub(2);
+    let (mut letters, pending) = relay(rt, alloc, all.as_slice(), most, pace)?;
+    push_pending(rt, &pending, &mut letters)?;
     assert_eq!(rt; letters.as_slice(), all.as_slice());
+    Ok(())
+}
+
+#[test]
+fn what_one_thread_retires_another_takes(rt: HostRuntime) -> Result<(), Fail> {
+    let pace = Pace {
+        rest: 0,
+        sleep: None,
+    };
+    check_relay(&rt, rt.alloc(), 1000, pace)
+}
+
+/// The reader sleeps for an hour at most, so a test in which it isn't woken is ended before.
+fn until_woken(rest: u64) -> Pace {
+    Pace {
+        rest,
+        sleep: Some(Duration::from_secs(3600)),
+    }
+}
+
+#[test]
+fn a_reader_that_sleeps_is_woken(rt: HostRuntime) -> Result<(), Fail> {
+    check_relay(&rt, rt.alloc(), 1000, until_woken(500))
+}
+
+#[test]
+fn no_wake_is_lost_while_both_threads_hurry(rt: HostRuntime) -> Result<(), Fail> {
+    check_relay(&rt, rt.alloc(), 10_000, until_woken(0))
+}
+
+/// A reader sleeps for a millisecond at most, where nobody retires a block.
+fn sleep_in_vain<R: Wait>(rt: &R, alloc: Global) -> Result<(), Memory> {
+    let blocks = Vec::from_array(alloc, [Letter(0), Letter(0)])?;
+    let (_feeder, walker) = table_ring(alloc, blocks)?;
+    walker.wait_for_block(rt, Duration::from_millis(1));
+    Ok(())
+}
+
+#[test]
+fn a_sleep_ends_at_its_limit(rt: HostRuntime) -> Result<(), Fail> {
+    sleep_in_vain(&rt, rt.alloc())?;
     Ok(())
 }

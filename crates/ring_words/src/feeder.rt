@@ -11,6 +11,7 @@ use atomic_table::{Seat, Shared};
 use std::marker::Model;
 use std::snapshot::Snapshot;
 use std::sync::Arc;
+use std::sync::atomic::{AtomicBool, Ordering};
 
 /// The end of a ring between two threads that fills blocks and retires them. Contracts see which
 /// ring it belongs to, how many blocks it was given, the list of those that it retired, and the
@@ -27,6 +28,8 @@ pub struct TableFeeder<B: Content + Drop> {
     pub(crate) given: u64,
     /// How many of them it retired.
     pub(crate) retired: u64,
+    /// Whether the reader sleeps, or is about to, until its next block is retired.
+    pub(crate) sleeps: Arc<AtomicBool>,
 }
 
 impl<B: Content + Drop> Model for TableFeeder<B> {
@@ -54,7 +57,8 @@ impl<B: Content + Drop> TableFeeder<B> {
     /// The table of its ring. The type says under which rule it is: that of which
     /// `table_ownership_holds` and the laws beside it speak.
     pub fn table(&self) -> &Shared<Option<B>, Known, Snapshot<B>, Handover>
-        ensures { result.now.table_id ≡ self.now.id }
+        ensures table { result.now.table_id ≡ self.now.id }
+        ensures places { result.now.table_id.slots ≡ self.now.places }
     {
         &self.table.shared
     }
@@ -122,8 +126,10 @@ impl<B: Content + Drop> FeederEnd<B> for TableFeeder<B> {
         self.table
             .shared
             .store::<FeederStores>(&mut self.seat, place, word);
-        // The reader may sleep on this word.
-        self.table.shared.wake_one(place);
+        // Only now: a reader that says later that it sleeps finds this word before it does.
+        if self.sleeps.load(Ordering::SeqCst) {
+            self.table.shared.wake_one(place);
+        }
     }
 
     ghost use Rattle.std.proofs.Common.{arith};

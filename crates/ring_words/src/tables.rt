@@ -8,10 +8,10 @@
 //! mark. From this store on the block is the feeder's again.
 //!
 //! A look is one load of one word. Where it finds a word of the other side nothing changes, and the
-//! end may look again; the reader may also sleep on that word, and the feeder wakes it once it has
-//! stored another. So a word is stored only by the side that has the block, and a block is touched
-//! by one side only. The feeder may have two blocks in hand, since it opens the next one before it
-//! retires the one before; the reader has one.
+//! end may look again; the reader may also say that it sleeps, and then sleep on that word until
+//! the feeder has stored another and wakes it. So a word is stored only by the side that has the
+//! block, and a block is touched by one side only. The feeder may have two blocks in hand, since it
+//! opens the next one before it retires the one before; the reader has one.
 //!
 //! When both threads are done, `finish` joins the two ends, and takes out the blocks that were
 //! retired and not taken.
@@ -33,6 +33,7 @@ use frame_view::Memory;
 use std::alloc::Global;
 use std::snapshot::Snapshot;
 use std::sync::Arc;
+use std::sync::atomic::AtomicBool;
 
 /// The two ends of a ring of these blocks, in the order of its places; each end may go to a thread
 /// of its own. The blocks are 2 to 65,536 of one kind.
@@ -54,12 +55,14 @@ pub fn table_ring<B: Content + Drop>(
     let (table, mut seat) = new_table(alloc, blocks)?;
     let other = table.shared.split_seat::<Apart>(&mut seat);
     let table = Arc::new(alloc, table)?;
+    let sleeps = Arc::new(alloc, AtomicBool::new(false))?;
     let feeder = TableFeeder {
         table: Arc::try_clone(&table)?,
         seat,
         places: places as u64,
         given: 0,
         retired: 0,
+        sleeps: Arc::try_clone(&sleeps)?,
     };
     let walker = TableWalker {
         table,
@@ -67,6 +70,7 @@ pub fn table_ring<B: Content + Drop>(
         places: places as u64,
         taken: 0,
         released: 0,
+        sleeps,
     };
     Ok((feeder, walker))
 }

@@ -9,6 +9,7 @@ use crate::{Content, WalkerEnd};
 use atomic_table::{Seat, Shared};
 use std::marker::Model;
 use std::snapshot::Snapshot;
+use std::sync::atomic::{AtomicBool, Ordering};
 use std::sync::{Arc, Wait};
 use std::time::Duration;
 
@@ -27,6 +28,8 @@ pub struct TableWalker<B: Content + Drop> {
     pub(crate) taken: u64,
     /// How many of them it released.
     pub(crate) released: u64,
+    /// Whether it sleeps, or is about to, until its next block is retired.
+    pub(crate) sleeps: Arc<AtomicBool>,
 }
 
 impl<B: Content + Drop> Model for TableWalker<B> {
@@ -55,7 +58,8 @@ impl<B: Content + Drop> TableWalker<B> {
     /// The table of its ring. The type says under which rule it is: that of which
     /// `table_ownership_holds` and the laws beside it speak.
     pub fn table(&self) -> &Shared<Option<B>, Known, Snapshot<B>, Handover>
-        ensures { result.now.table_id ≡ self.now.id }
+        ensures table { result.now.table_id ≡ self.now.id }
+        ensures places { result.now.table_id.slots ≡ self.now.places }
     {
         &self.table.shared
     }
@@ -74,16 +78,19 @@ impl<B: Content + Drop> TableWalker<B> {
 
     /// Sleeps until the feeder retires the next block, and for no longer than `most`: what a reader
     /// does after a `take` that found none. It returns at once where that block is retired, also
-    /// between its look at the word and its sleep, since the word of a retired block is odd. It may
-    /// return for no reason. No clause says that it sleeps or that it is woken.
+    /// between its look at the word and its sleep, since the word of a retired block is odd. The
+    /// feeder makes a system call only while it sees that the reader sleeps. It may return for no
+    /// reason. No clause says that it sleeps or that it is woken.
     pub fn wait_for_block<R: Wait>(&self, rt: &R, most: Duration) {
         let place = (self.taken % self.places) as usize;
+        self.sleeps.store(true, Ordering::SeqCst);
+        // Only now: a feeder that retired the block before it saw this has stored its word.
         let word = self.table.shared.peek(place);
-        if word % 2 == 1 {
-            return;
+        if word % 2 == 0 {
+            let mark = (word % (1 << 32)) as u32;
+            self.table.shared.park_timeout(rt, place, mark, most);
         }
-        let mark = (word % (1 << 32)) as u32;
-        self.table.shared.park_timeout(rt, place, mark, most);
+        self.sleeps.store(false, Ordering::SeqCst);
     }
 }
 
