@@ -75,6 +75,7 @@ fn log_of(
     let mut desk = ListDesk {
         rooms: vec![in alloc; room; plan.members() as usize]?,
         ticket: 0,
+        memory: u32::MAX,
     };
     let mut path = ReceivePath::new(alloc, plan);
     for (index, &bytes) in frames.iter().enumerate() {
@@ -196,7 +197,7 @@ fn tries_members_by_mode_and_flag(rt: HostRuntime) -> Result<(), Fail> {
 }
 
 /// A TCP frame from 66.9.149.187 port 2794 to 161.142.100.80 port 1766, of the verification suite.
-const THERE: &[u8] = &[
+pub(crate) const THERE: &[u8] = &[
     2, 0, 0, 0, 0, 2, 2, 0, 0, 0, 0, 1, 0x08, 0x00, 0x45, 0, 0, 40, 0, 0, 0, 0, 64, 6, 0, 0, 66, 9,
     149, 187, 161, 142, 100, 80, 0x0a, 0xea, 0x06, 0xe6,
 ];
@@ -252,7 +253,7 @@ fn without_a_key_the_hash_is_zero(rt: HostRuntime) -> Result<(), Fail> {
 const IP_96: &[u8] = b"4\n40 0 0 12\n21 0 1 2048\n6 0 0 96\n6 0 0 0\n";
 
 /// An ARP frame.
-const ARP: &[u8] = &[2, 0, 0, 0, 0, 2, 2, 0, 0, 0, 0, 1, 0x08, 0x06];
+pub(crate) const ARP: &[u8] = &[2, 0, 0, 0, 0, 2, 2, 0, 0, 0, 0, 1, 0x08, 0x06];
 
 /// Each entry of a log has its place for its ticket, and the expected verdict.
 fn check_tickets(rt: &impl Abort, log: &ArrivalList, verdicts: &[u32]) {

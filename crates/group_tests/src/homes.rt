@@ -74,6 +74,7 @@ fn member_of(
     let mut desk = ListDesk {
         rooms: vec![in alloc; 1; plan.members() as usize]?,
         ticket: 0,
+        memory: u32::MAX,
     };
     let mut path = ReceivePath::new(alloc, plan);
     take(alloc, &mut path, rules, &mut desk, arrival)?;

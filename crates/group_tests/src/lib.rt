@@ -36,6 +36,8 @@ mod listings;
 #[cfg(test)]
 mod made_frames;
 #[cfg(test)]
+mod path_parts;
+#[cfg(test)]
 mod refused_texts;
 #[cfg(test)]
 mod verdicts;

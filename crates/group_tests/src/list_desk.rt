@@ -10,11 +10,13 @@ use frame_view::Memory;
 use ring_model::{Offer, Put, Tried, Unput};
 use std::alloc::Global;
 
-/// Members that each have room for some more packets, and the next ticket.
+/// Members that each have room for some more packets, the next ticket, and for how many tries there
+/// is memory.
 #[derive(Drop)]
 pub(crate) struct ListDesk {
     pub rooms: Vec<u32>,
     pub ticket: u64,
+    pub memory: u32,
 }
 
 impl ListDesk {
@@ -33,6 +35,18 @@ impl ListDesk {
         self.rooms[member as usize] = room - 1;
         true
     }
+
+    /// Whether there is memory for another try.
+    fn has_memory(&mut self) -> bool
+        ensures rooms { self.new.rooms ≡ self.old.rooms }
+        ensures ticket { self.new.ticket ≡ self.old.ticket }
+    {
+        if self.memory == 0 {
+            return false;
+        }
+        self.memory -= 1;
+        true
+    }
 }
 
 impl Desk for ListDesk {
@@ -45,6 +59,9 @@ impl Desk for ListDesk {
         × (after.ticket ≡ before.ticket) };
 
     fn try_put(&mut self, member: u32, offer: Offer) -> Result<Tried, Unput> {
+        if !self.has_memory() {
+            return Err(Unput { offer });
+        }
         if self.keeps(member) {
             Ok(Tried::Kept)
         } else {
@@ -52,7 +69,10 @@ impl Desk for ListDesk {
         }
     }
 
-    fn put(&mut self, member: u32, _offer: Offer) -> Result<Put, Unput> {
+    fn put(&mut self, member: u32, offer: Offer) -> Result<Put, Unput> {
+        if !self.has_memory() {
+            return Err(Unput { offer });
+        }
         if self.keeps(member) {
             Ok(Put::Kept)
         } else {
