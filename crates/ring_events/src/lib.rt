@@ -1,0 +1,6 @@
+//! What happens to one ring and its reader, one after another.
+#![tactic(auto)]
+
+mod events;
+
+pub use events::Happening;
