@@ -1,0 +1,4 @@
+pub mod EventLists
+pub mod Passes
+pub mod Courses
+pub mod Reads

@@ -1,0 +1,43 @@
+//! Laws of the definitions, each the contract of a function that does nothing.
+ghost use Rattle.std.specs.Prelude.{◌≡◌, ◌↔◌, ◌≤◌, ℕ, List};
+ghost use Rattle.ring_events.specs.Happenings.{IsPlain, NeverFreezes, all_happened, happened};
+ghost use Rattle.ring_events.specs.declared.events.Happening.{Happening};
+ghost use Rattle.ring_events.specs.declared.events.Happening.TheVariants.{ReadAll};
+ghost use Rattle.ring_model.specs.Fates.{totals_of};
+ghost use Rattle.ring_model.specs.Ring.{Size};
+ghost use Rattle.ring_model.specs.Rings.{fresh};
+ghost use Rattle.ring_sizes.specs.EventLists.{events_of};
+ghost use Rattle.ring_sizes.specs.Courses.{all_went_on, course_stats, first_course};
+ghost use Rattle.ring_sizes.specs.Passes.{first_pass, passed_all};
+ghost use Rattle.ring_sizes.specs.Reads.{read_times};
+
+/// A reader that reads as often as the ring has blocks, or more often, has read all of them.
+pub fn as_many_reads_as_blocks_read_all()
+    ensures { (size : Size) (all : List Happening) (times : ℕ) → IsPlain all
+        → 1 ≤ size.blocks → size.blocks ≤ times
+        → read_times times (all_happened all (fresh size))
+        ≡ happened ReadAll (all_happened all (fresh size)) }
+{}
+
+/// A ring never freezes exactly where its statistics over the whole run count no freeze.
+pub fn a_ring_never_freezes_where_it_counts_no_freeze()
+    ensures { (size : Size) (all : List Happening) → IsPlain all
+        → 1 ≤ size.blocks → NeverFreezes size all
+        ↔ ((totals_of size (all_happened all (fresh size)).notes).freezes ≡ 0) }
+{}
+
+/// The pass over what happens to a ring tells the least number of blocks with which it never
+/// freezes.
+pub fn a_pass_tells_the_least_ring()
+    ensures { (size : Size) (all : List Happening) → 1 ≤ size.blocks
+        → let pass = passed_all size.room size.tov (events_of all) (first_pass size.tov) in
+        NeverFreezes size all ↔ (pass.least ≤ size.blocks) }
+{}
+
+/// The course over what happens to a ring counts what its notes do over the whole run.
+pub fn a_course_counts_what_the_ring_counts()
+    ensures { (size : Size) (all : List Happening) → IsPlain all
+        → course_stats (all_went_on size.room size.blocks size.tov (events_of all)
+        (first_course size.tov))
+        ≡ totals_of size (all_happened all (fresh size)).notes }
+{}

@@ -1,0 +1,16 @@
+//! Which ring loses nothing: the least number of blocks with which a ring never freezes, in one
+//! pass over what happens to it.
+#![tactic(auto)]
+
+mod courses;
+mod events;
+mod laws;
+mod sizes;
+
+pub use courses::{Course, losses};
+pub use events::Event;
+pub use laws::{
+    a_course_counts_what_the_ring_counts, a_pass_tells_the_least_ring,
+    a_ring_never_freezes_where_it_counts_no_freeze, as_many_reads_as_blocks_read_all,
+};
+pub use sizes::{Pass, least};

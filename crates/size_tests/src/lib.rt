@@ -1,0 +1,5 @@
+//! Tests of the passes that tell which ring loses nothing.
+#![tactic(auto)]
+
+#[cfg(test)]
+mod event_lists;
