@@ -5,3 +5,7 @@ pub mod Runs
 pub mod Small
 pub mod ManyReads
 pub mod NoFreeze
+pub mod Counts
+pub mod Gaps
+pub mod Still
+pub mod Frames

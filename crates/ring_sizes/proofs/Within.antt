@@ -1,8 +1,8 @@
 -- The numbers of a pass stay small.
-use Rattle.std.proofs.Common.{◌≡◌, ℕ, ◌+◌, ◌<◌, ◌^◌, Bool, true, false, cond, arith, refl}
+use Rattle.std.proofs.Common.{◌≡◌, ℕ, ◌+◌, ◌<◌, ◌≤◌, ◌^◌, Bool, true, false, cond, arith, refl}
 use Rattle.std.specs.Prelude.{nat_lt, nat_le}
 use Rattle.std.proofs.lemmas.Grind.{common_steps}
-use Rattle.ring_sizes.specs.Passes.{IsWithin, passed, with_next}
+use Rattle.ring_sizes.specs.Passes.{IsWithin, passed, ticked, with_next}
 use Rattle.ring_sizes.specs.declared.events.Event.{Event}
 use Rattle.ring_sizes.specs.declared.events.Event.TheVariants.{Packet, Tick, Read, ReadAll}
 use Rattle.ring_sizes.specs.declared.sizes.Pass.{Pass}
@@ -40,3 +40,9 @@ stays_within bound room tov (Tick ms) pass h used = tick_within bound tov ms pas
 stays_within bound room tov Read pass h used = read_within bound pass (nat_lt pass.released pass.done) refl h
 stays_within bound room tov ReadAll pass h used =
     record { few = omega (arith, h.few); behind = omega arith; used = h.used }
+
+pub ticked_within : (bound tov ms : ℕ) (pass : Pass) → IsWithin bound pass → IsWithin (bound + 1) (ticked tov ms pass)
+ticked_within bound tov ms pass h = tick_within bound tov ms pass (nat_lt ms pass.deadline) pass.empty h
+
+pub weaker : (bound other : ℕ) (pass : Pass) → bound ≤ other → IsWithin bound pass → IsWithin other pass
+weaker bound other pass more h = record { few = omega (arith, more, h.few); behind = h.behind; used = h.used }

@@ -2,3 +2,6 @@ pub mod EventLists
 pub mod Passes
 pub mod Courses
 pub mod Reads
+pub mod Schedules
+pub mod Rests
+pub mod Places

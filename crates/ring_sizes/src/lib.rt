@@ -5,7 +5,9 @@
 mod courses;
 mod events;
 mod laws;
+mod paces;
 mod sizes;
+mod timed;
 
 pub use courses::{Course, losses};
 pub use events::Event;
@@ -13,4 +15,6 @@ pub use laws::{
     a_course_counts_what_the_ring_counts, a_pass_tells_the_least_ring,
     a_ring_never_freezes_where_it_counts_no_freeze, as_many_reads_as_blocks_read_all,
 };
+pub use paces::{Arrival, Pace, Stall};
 pub use sizes::{Pass, least};
+pub use timed::{least_at, timed_pass};

@@ -3,7 +3,9 @@ ghost use Rattle.std.specs.Prelude.{◌≡◌, ◌↔◌, ◌+◌, ◌<◌, ◌�
 ghost use Rattle.ring_events.specs.Happenings.{NeverFreezes};
 ghost use Rattle.ring_events.specs.declared.events.Happening.{Happening};
 ghost use Rattle.ring_sizes.specs.EventLists.{events_of};
-ghost use Rattle.ring_sizes.specs.Passes.{IsWithin, first_pass, offered, passed, ticked, with_next};
+ghost use Rattle.ring_sizes.specs.Passes.{IsWithin, first_pass, offered, passed, ticked};
+ghost use Rattle.ring_sizes.specs.Passes.{with_next};
+ghost use Rattle.ring_sizes.specs.Rests.{read_on};
 
 use crate::Event;
 
@@ -102,8 +104,15 @@ impl Pass {
         self.empty = false;
     }
 
+    /// The open block has no packet.
+    pub fn is_empty(&self) -> bool
+        ensures { result ≡ self.now.empty }
+    {
+        self.empty
+    }
+
     /// Takes a tick.
-    fn tick(&mut self, ms: u64, tov: u64)
+    pub fn tick(&mut self, ms: u64, tov: u64)
         requires { IsWithin (2 ^ 63) self.old }
         ensures goes { self.new ≡ ticked tov ms self.old }
         ensures used { self.new.used < 2 ^ 32 }
@@ -118,6 +127,18 @@ impl Pass {
             self.empty = true;
         }
         self.deadline = u128::from(ms) + u128::from(tov);
+    }
+
+    /// Takes steps of the reader, each of which reads all that is there, or one block.
+    pub fn read(&mut self, steps: u64, takes_all: bool)
+        requires { IsWithin (2 ^ 63) self.old }
+        ensures { self.new ≡ read_on takes_all steps self.old }
+    {
+        if !takes_all {
+            self.released += steps.min(self.done - self.released);
+        } else if 0 < steps {
+            self.released = self.done;
+        }
     }
 
     /// Retires the open block and opens the next, for which there is always room: a ring that has

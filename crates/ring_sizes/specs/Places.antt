@@ -1,0 +1,14 @@
+-- How far a timer and a reader have come at a frame's moment.
+use Rattle.std.specs.Prelude.{ℕ, ◌+◌}
+use Rattle.ring_sizes.specs.Schedules.{step_moment, steps_before, tick_moment, ticks_by}
+use Rattle.ring_sizes.specs.declared.paces.Pace.{Pace}
+use Rattle.ring_sizes.specs.declared.timed.Place.{Place}
+
+abbrev pub place_at : Pace → ℕ → Place
+place_at pace at = record {
+  at = at;
+  ticks = ticks_by pace at;
+  tick_at = tick_moment pace (ticks_by pace at + 1);
+  steps = steps_before pace at;
+  step_at = step_moment pace (steps_before pace at + 1);
+}

@@ -1,0 +1,86 @@
+-- The events of a ring whose frames come at their moments, with a timer and a reader beside them.
+-- Moments are in nanoseconds from the first frame on; at one moment ticks come first, then frames,
+-- then the reader's steps.
+use Rattle.std.specs.Prelude.{ℕ, zero, suc, ◌+◌, ◌-◌, ◌*◌, ◌/◌, ◌<◌, ◌≤◌, ◌^◌, max, Bool, false}
+use Rattle.std.specs.Prelude.{List, [], ◌∷◌, ◌++◌, replicate, nat_le, nat_lt, if◌then◌else◌, ◌&&◌, ◌||◌}
+use Rattle.ring_sizes.specs.declared.events.Event.{Event}
+use Rattle.ring_sizes.specs.declared.events.Event.TheVariants.{Packet, Tick, Read, ReadAll}
+use Rattle.ring_sizes.specs.declared.paces.Arrival.{Arrival}
+use Rattle.ring_sizes.specs.declared.paces.Pace.{Pace}
+use Rattle.ring_sizes.specs.declared.paces.Stall.{Stall}
+
+-- the moment of the n-th tick, counted from 1: n time-outs less the phase, both in milliseconds
+abbrev pub tick_moment : Pace → ℕ → ℕ
+tick_moment pace number = number * (pace.tov * 1000000) - pace.phase * 1000000
+
+-- how many ticks come by a moment
+abbrev pub ticks_by : Pace → ℕ → ℕ
+ticks_by pace at = (at + pace.phase * 1000000) / (pace.tov * 1000000)
+
+-- the moment of the reader's n-th step, counted from 1: n spans divided by the parts, less the shift
+abbrev pub step_moment : Pace → ℕ → ℕ
+step_moment pace number = number * pace.span / pace.parts - pace.shift
+
+-- how many steps come before a moment
+abbrev pub steps_before : Pace → ℕ → ℕ
+steps_before pace at = ((at + pace.shift) * pace.parts - 1) / pace.span
+
+-- the reader does nothing at this moment
+abbrev pub is_stalled : List Stall → ℕ → Bool
+is_stalled [] at = false
+is_stalled (stall ∷ stalls) at =
+    nat_le stall.from at && nat_lt at (stall.from + stall.length) || is_stalled stalls at
+
+-- how many of the next steps after so many aren't in a stall
+abbrev pub awake : List Stall → Pace → ℕ → ℕ → ℕ
+awake stalls pace done zero = 0
+awake stalls pace done (suc more) =
+    (if is_stalled stalls (step_moment pace (done + 1)) then 0 else 1)
+    + awake stalls pace (done + 1) more
+
+-- what the reader does in a step
+abbrev pub step_event : Bool → Event
+step_event takes_all = if takes_all then ReadAll else Read
+
+-- the reader's steps from one moment on, before another
+abbrev pub steps_from : List Stall → Pace → ℕ → ℕ → List Event
+steps_from stalls pace since at =
+    replicate
+    (awake stalls pace (steps_before pace since) (steps_before pace at - steps_before pace since))
+    (step_event pace.takes_all)
+
+-- the next ticks after so many, and the reader's steps from a moment on, before another
+abbrev pub beats : List Stall → Pace → ℕ → ℕ → ℕ → ℕ → List Event
+beats stalls pace zero ticks since at = steps_from stalls pace since at
+beats stalls pace (suc more) ticks since at =
+    let next = tick_moment pace (ticks + 1) in
+    steps_from stalls pace since next
+    ++ Tick ((ticks + 1) * pace.tov) ∷ beats stalls pace more (ticks + 1) next at
+
+-- what comes between two frames with these moments
+abbrev pub beats_between : List Stall → Pace → ℕ → ℕ → List Event
+beats_between stalls pace since at =
+    beats stalls pace (ticks_by pace at - ticks_by pace since) (ticks_by pace since) since at
+
+-- the events up to the last frame, if the frame before these came at a moment; a frame that is
+-- older than the one before it comes right after that
+abbrev pub schedule_from : List Stall → Pace → ℕ → List Arrival → List Event
+schedule_from stalls pace since [] = []
+schedule_from stalls pace since (arrival ∷ arrivals) =
+    let at = max since arrival.at in
+    beats_between stalls pace since at
+    ++ Packet arrival.need ∷ schedule_from stalls pace at arrivals
+
+abbrev pub schedule : List Stall → Pace → List Arrival → List Event
+schedule stalls pace arrivals = schedule_from stalls pace 0 arrivals
+
+-- a valid timer and reader: neither period is 0, the reader makes at most a step a nanosecond, and
+-- each began less than a period before the first frame, the reader at most one
+pub record IsPace (pace : Pace) : Type 0 where
+  pub tov : 0 < pace.tov
+  pub phase : pace.phase < pace.tov
+  pub span : 0 < pace.span
+  pub brief : pace.span < 2 ^ 60
+  pub parts : 0 < pace.parts
+  pub slow : pace.parts ≤ pace.span
+  pub shift : pace.shift * pace.parts ≤ pace.span
