@@ -9,3 +9,4 @@ pub mod Counts
 pub mod Gaps
 pub mod Still
 pub mod Frames
+pub mod Worsts

@@ -5,3 +5,4 @@ pub mod Reads
 pub mod Schedules
 pub mod Rests
 pub mod Places
+pub mod Phases

@@ -1,5 +1,5 @@
 //! Laws of the definitions, each the contract of a function that does nothing.
-ghost use Rattle.std.specs.Prelude.{◌≡◌, ◌↔◌, ◌≤◌, ℕ, List};
+ghost use Rattle.std.specs.Prelude.{◌≡◌, ◌↔◌, ◌<◌, ◌≤◌, ℕ, List};
 ghost use Rattle.ring_events.specs.Happenings.{IsPlain, NeverFreezes, all_happened, happened};
 ghost use Rattle.ring_events.specs.declared.events.Happening.{Happening};
 ghost use Rattle.ring_events.specs.declared.events.Happening.TheVariants.{ReadAll};
@@ -10,6 +10,9 @@ ghost use Rattle.ring_sizes.specs.EventLists.{events_of};
 ghost use Rattle.ring_sizes.specs.Courses.{all_went_on, course_stats, first_course};
 ghost use Rattle.ring_sizes.specs.Passes.{first_pass, passed_all};
 ghost use Rattle.ring_sizes.specs.Reads.{read_times};
+ghost use Rattle.ring_sizes.specs.Schedules.{IsPace, step_moment, steps_before};
+ghost use Rattle.ring_sizes.specs.Schedules.{tick_moment, ticks_by};
+ghost use Rattle.ring_sizes.specs.declared.paces.Pace.{Pace};
 
 /// A reader that reads as often as the ring has blocks, or more often, has read all of them.
 pub fn as_many_reads_as_blocks_read_all()
@@ -40,4 +43,16 @@ pub fn a_course_counts_what_the_ring_counts()
         → course_stats (all_went_on size.room size.blocks size.tov (events_of all)
         (first_course size.tov))
         ≡ totals_of size (all_happened all (fresh size)).notes }
+{}
+
+/// As many ticks of a timer come by a moment as have their moment by then.
+pub fn a_tick_is_counted_from_its_moment_on()
+    ensures { (pace : Pace) (at number : ℕ) → 0 < pace.tov
+        → (number ≤ ticks_by pace at) ↔ (tick_moment pace number ≤ at) }
+{}
+
+/// As many steps of a reader come before a moment as have their moment before it.
+pub fn a_step_is_counted_after_its_moment()
+    ensures { (pace : Pace) (at number : ℕ) → IsPace pace → 1 ≤ number
+        → (number ≤ steps_before pace at) ↔ (step_moment pace number < at) }
 {}

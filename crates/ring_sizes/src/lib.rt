@@ -6,6 +6,7 @@ mod courses;
 mod events;
 mod laws;
 mod paces;
+mod phases;
 mod sizes;
 mod timed;
 
@@ -13,8 +14,10 @@ pub use courses::{Course, losses};
 pub use events::Event;
 pub use laws::{
     a_course_counts_what_the_ring_counts, a_pass_tells_the_least_ring,
-    a_ring_never_freezes_where_it_counts_no_freeze, as_many_reads_as_blocks_read_all,
+    a_ring_never_freezes_where_it_counts_no_freeze, a_step_is_counted_after_its_moment,
+    a_tick_is_counted_from_its_moment_on, as_many_reads_as_blocks_read_all,
 };
 pub use paces::{Arrival, Pace, Stall};
+pub use phases::{Worst, least_of_all, worst_at};
 pub use sizes::{Pass, least};
 pub use timed::{least_at, timed_pass};

@@ -4,6 +4,7 @@ ghost use Rattle.ring_events.specs.Happenings.{NeverFreezes};
 ghost use Rattle.ring_events.specs.declared.events.Happening.{Happening};
 ghost use Rattle.ring_sizes.specs.EventLists.{events_of};
 ghost use Rattle.ring_sizes.specs.Passes.{IsWithin, first_pass, passed_all};
+ghost use Rattle.ring_sizes.specs.Phases.{least_of};
 ghost use Rattle.ring_sizes.specs.Places.{place_at};
 ghost use Rattle.ring_sizes.specs.Rests.{after_last, after_next, read_to, rested};
 ghost use Rattle.ring_sizes.specs.Schedules.{IsPace, schedule};
@@ -30,7 +31,9 @@ pub fn least_at(room: u32, pace: &Pace, stalls: &[Stall], arrivals: &[Arrival]) 
     requires sound { IsPace pace.now }
     requires early { All (λ arrival. arrival.at < 2 ^ 53) arrivals.now }
     requires few { length arrivals.now < 2 ^ 60 }
-    ensures { (blocks : ℕ) (happenings : List Happening)
+    ensures some { 1 ≤ result }
+    ensures least { result ≡ least_of room stalls.now pace.now arrivals.now }
+    ensures threshold { (blocks : ℕ) (happenings : List Happening)
         → events_of happenings ≡ schedule stalls.now pace.now arrivals.now → 1 ≤ blocks
         → NeverFreezes (record { room = room; blocks = blocks; tov = pace.now.tov }) happenings
         ↔ (result ≤ blocks) }
