@@ -1,6 +1,6 @@
 -- How many ticks and steps come by a moment.
 use Rattle.std.proofs.Common.{◌≡◌, ◌↔◌, ℕ, ◌+◌, ◌-◌, ◌*◌, ◌/◌, ◌<◌, ◌≤◌, ◌^◌, ◌⊎◌, inl, inr, arith}
-use Rattle.std.proofs.Math.Nat.{div-mul-le_self, le-div_iff_mul-le, mul-le-mul_left}
+use Rattle.std.proofs.Math.Nat.{div-le_self, div-mul-le_self, le-div_iff_mul-le, mul-le-mul_left}
 use Rattle.std.proofs.lemmas.Nat.{div_below, le-div}
 use Rattle.std.proofs.lemmas.Grind.{common_steps}
 use Rattle.std.proofs.lemmas.Bool.{cases_lt}
@@ -115,3 +115,8 @@ step_fits pace at sound early =
 pub tick_small : (pace : Pace) (at : ℕ) → at < 2 ^ 53 → pace.phase < 2 ^ 32 → ticks_by pace at * pace.tov < 2 ^ 54
 tick_small pace at early phase =
     let here = div-mul-le_self (at + pace.phase * 1000000) (pace.tov * 1000000) in omega (arith, here, early, phase)
+
+pub ticks_few : (pace : Pace) (at : ℕ) → IsPace pace → at < 2 ^ 53 → ticks_by pace at < 2 ^ 54
+ticks_few pace at sound early =
+    let few = div-le_self (at + pace.phase * 1000000) (pace.tov * 1000000) in
+    omega (arith, few, early, sound.phase, sound.short)

@@ -23,19 +23,19 @@ passed_append room tov (event ∷ events) more pass = passed_append room tov eve
 
 -- ---- the reader's steps
 
-all_again : (none : Bool) (done : ℕ) → cond none done done ≡ done
+pub all_again : (none : Bool) (done : ℕ) → cond none done done ≡ done
 all_again true done = refl
 all_again false done = refl
 
-not_none : (steps : ℕ) (none : Bool) → (steps == 0) ≡ none → 0 < steps → none ≡ false
+pub not_none : (steps : ℕ) (none : Bool) → (steps == 0) ≡ none → 0 < steps → none ≡ false
 not_none steps true e some = absurd (grind (arith, common_steps))
 not_none steps false e some = refl
 
-more_read : (more : ℕ) (released done : ℕ) → released < done
+pub more_read : (more : ℕ) (released done : ℕ) → released < done
     → released + 1 + min more (done - (released + 1)) ≡ released + min (suc more) (done - released)
 more_read more released done some = grind (arith, common_steps)
 
-none_read : (more : ℕ) (released done : ℕ) → done ≤ released
+pub none_read : (more : ℕ) (released done : ℕ) → done ≤ released
     → released + min more (done - released) ≡ released + min (suc more) (done - released)
 none_read more released done none = grind (arith, common_steps)
 

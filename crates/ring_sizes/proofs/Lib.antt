@@ -10,3 +10,4 @@ pub mod Gaps
 pub mod Still
 pub mod Frames
 pub mod Worsts
+pub mod CourseGaps

@@ -67,7 +67,7 @@ same_rest stalls pace place at pass sound e later tick step =
 
 -- ---- numbers stay small
 
-released_few : (takes_all none : Bool) (steps released done : ℕ) → released ≤ done
+pub released_few : (takes_all none : Bool) (steps released done : ℕ) → released ≤ done
     → cond takes_all (cond none released done) (released + min steps (done - released)) ≤ done
 released_few true true steps released done h = h
 released_few true false steps released done h = omega arith

@@ -20,6 +20,7 @@ least_of room stalls pace arrivals =
 pub record AreBegun (pace : Pace) (beginnings : ℕ) : Type 0 where
   pub some : 0 < beginnings
   pub tov : 0 < pace.tov
+  pub short : pace.tov < 2 ^ 32
   pub span : 0 < pace.span
   pub brief : pace.span < 2 ^ 60
   pub parts : 0 < pace.parts

@@ -3,6 +3,7 @@ use Rattle.std.specs.Prelude.{◌≡◌, ℕ, ◌+◌, ◌-◌, ◌*◌, ◌≤�
 use Rattle.std.specs.Prelude.{List}
 use Rattle.ring_sizes.specs.Passes.{ticked}
 use Rattle.ring_sizes.specs.Schedules.{awake, steps_before, tick_moment, ticks_by}
+use Rattle.ring_sizes.specs.declared.courses.Course.{Course}
 use Rattle.ring_sizes.specs.declared.paces.Pace.{Pace}
 use Rattle.ring_sizes.specs.declared.paces.Stall.{Stall}
 use Rattle.ring_sizes.specs.declared.sizes.Pass.{Pass}
@@ -16,6 +17,11 @@ released_by takes_all steps released done =
 abbrev pub read_on : Bool → ℕ → Pass → Pass
 read_on takes_all steps pass =
     record pass { released = released_by takes_all steps pass.released pass.done }
+
+-- the same of a ring of a given size
+abbrev pub course_read : Bool → ℕ → Course → Course
+course_read takes_all steps course =
+    record course { released = released_by takes_all steps course.released course.done }
 
 -- after the steps from one number on, up to another
 abbrev pub read_to : List Stall → Pace → ℕ → ℕ → Pass → Pass

@@ -78,6 +78,7 @@ schedule stalls pace arrivals = schedule_from stalls pace 0 arrivals
 -- each began less than a period before the first frame, the reader at most one
 pub record IsPace (pace : Pace) : Type 0 where
   pub tov : 0 < pace.tov
+  pub short : pace.tov < 2 ^ 32
   pub phase : pace.phase < pace.tov
   pub span : 0 < pace.span
   pub brief : pace.span < 2 ^ 60

@@ -8,6 +8,7 @@ ghost use Rattle.ring_model.specs.Rings.{fresh};
 ghost use Rattle.ring_sizes.specs.Courses.{IsSmall, at_due, course_stats, fed, first_course};
 ghost use Rattle.ring_sizes.specs.Courses.{is_free, opened, over_time, went_on};
 ghost use Rattle.ring_sizes.specs.EventLists.{events_of};
+ghost use Rattle.ring_sizes.specs.Rests.{course_read};
 
 use crate::Event;
 use ring_model::Stats;
@@ -105,6 +106,18 @@ impl Course {
         }
     }
 
+    /// Takes steps of the reader, each of which reads all that is there, or one block.
+    pub fn read(&mut self, steps: u64, takes_all: bool)
+        requires { IsSmall (2 ^ 63) self.old }
+        ensures { self.new ≡ course_read takes_all steps self.old }
+    {
+        if !takes_all {
+            self.released += steps.min(self.done - self.released);
+        } else if 0 < steps {
+            self.released = self.done;
+        }
+    }
+
     /// Takes a packet.
     fn feed(&mut self, need: u32, room: u32, blocks: u32, tov: u64)
         requires { IsSmall (2 ^ 63) self.old }
@@ -130,7 +143,7 @@ impl Course {
     }
 
     /// Takes a tick.
-    fn tick(&mut self, ms: u64, blocks: u32, tov: u64)
+    pub fn tick(&mut self, ms: u64, blocks: u32, tov: u64)
         requires { IsSmall (2 ^ 63) self.old }
         ensures goes { self.new ≡ over_time blocks tov ms self.old }
         ensures used { self.new.used < 2 ^ 32 }

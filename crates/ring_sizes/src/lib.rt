@@ -9,6 +9,7 @@ mod paces;
 mod phases;
 mod sizes;
 mod timed;
+mod timed_courses;
 
 pub use courses::{Course, losses};
 pub use events::Event;
@@ -21,3 +22,4 @@ pub use paces::{Arrival, Pace, Stall};
 pub use phases::{Worst, least_of_all, worst_at};
 pub use sizes::{Pass, least};
 pub use timed::{least_at, timed_pass};
+pub use timed_courses::losses_at;

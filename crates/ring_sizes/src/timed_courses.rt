@@ -1,0 +1,86 @@
+//! What a ring of a given size loses of frames at their moments, with a timer and a reader beside
+//! them.
+ghost use Rattle.std.specs.Prelude.{◌≡◌, ◌+◌, ◌-◌, ◌<◌, ◌≤◌, ◌^◌, ℕ, List, All, length};
+ghost use Rattle.ring_events.specs.Happenings.{IsPlain, all_happened};
+ghost use Rattle.ring_events.specs.declared.events.Happening.{Happening};
+ghost use Rattle.ring_model.specs.Fates.{totals_of};
+ghost use Rattle.ring_model.specs.Ring.{Size};
+ghost use Rattle.ring_model.specs.Rings.{fresh};
+ghost use Rattle.ring_sizes.specs.Courses.{IsSmall, all_went_on, course_stats, first_course};
+ghost use Rattle.ring_sizes.specs.EventLists.{events_of};
+ghost use Rattle.ring_sizes.specs.Rests.{course_read};
+ghost use Rattle.ring_sizes.specs.Schedules.{IsPace, awake, beats_between, schedule};
+ghost use Rattle.ring_sizes.specs.Schedules.{steps_before, ticks_by};
+
+use crate::{Arrival, Course, Event, Pace, Stall};
+use ring_model::Stats;
+
+/// The statistics over the whole run of a ring: with blocks that have this room for packets, and
+/// this number of them, whose frames come at these moments, beside a timer and a reader.
+pub fn losses_at(
+    room: u32,
+    blocks: u32,
+    pace: &Pace,
+    stalls: &[Stall],
+    arrivals: &[Arrival],
+) -> Stats
+    requires sound { IsPace pace.now }
+    requires early { All (λ arrival. arrival.at < 2 ^ 53) arrivals.now }
+    requires few { length arrivals.now < 2 ^ 60 }
+    ensures { (happenings : List Happening)
+        → events_of happenings ≡ schedule stalls.now pace.now arrivals.now → IsPlain happenings
+        → let size : Size = record { room = room; blocks = blocks; tov = pace.now.tov } in
+        result ≡ totals_of size (all_happened happenings (fresh size)).notes }
+{
+    let tov = u64::from(pace.tov);
+    let mut course = Course::new(tov);
+    let mut at = 0;
+    for arrival in arrivals {
+        let next = at.max(arrival.at);
+        course.rest(blocks, pace, stalls, at, next);
+        course.take(Event::Packet(arrival.need), room, blocks, tov);
+        at = next;
+    }
+    course.stats()
+}
+
+impl Course {
+    /// Takes what the timer and the reader do from one moment on, before a frame of another.
+    fn rest(&mut self, blocks: u32, pace: &Pace, stalls: &[Stall], since: u64, at: u64)
+        requires sound { IsPace pace.now }
+        requires early { at < 2 ^ 53 }
+        requires later { since ≤ at }
+        requires small { IsSmall (2 ^ 62) self.old }
+        ensures goes { (room : ℕ) → self.new
+            ≡ all_went_on room blocks pace.now.tov (beats_between stalls.now pace.now since at)
+            self.old }
+        ensures small { (bound : ℕ) → IsSmall (bound + ticks_by pace.now since) self.old
+            → IsSmall (bound + ticks_by pace.now at) self.new }
+    {
+        let tov = u64::from(pace.tov);
+        let last = pace.ticks_by(at);
+        let mut ticks = pace.ticks_by(since);
+        let mut from = since;
+        while ticks < last {
+            let next = pace.tick_moment(ticks + 1);
+            self.read_from(from, next, pace, stalls);
+            self.tick((ticks + 1) * tov, blocks, tov);
+            ticks += 1;
+            from = next;
+        }
+        self.read_from(from, at, pace, stalls);
+    }
+
+    /// Takes the reader's steps from one moment on, before another.
+    fn read_from(&mut self, since: u64, at: u64, pace: &Pace, stalls: &[Stall])
+        requires sound { IsPace pace.now }
+        requires early { (since < 2 ^ 53) × (at < 2 ^ 53) }
+        requires small { IsSmall (2 ^ 63) self.old }
+        ensures { self.new ≡ course_read pace.now.takes_all
+            (awake stalls.now pace.now (steps_before pace.now since)
+            (steps_before pace.now at - steps_before pace.now since)) self.old }
+    {
+        let steps = pace.awake(pace.steps_before(since), pace.steps_before(at), stalls);
+        self.read(steps, pace.takes_all);
+    }
+}
