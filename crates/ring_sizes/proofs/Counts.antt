@@ -31,7 +31,8 @@ next_tick pace at some = by_case (cases_lt at (tick_moment pace (ticks_by pace a
 
 -- ---- steps
 
-step_soon : (pace : Pace) (at number : ℕ) → IsPace pace → 1 ≤ number → number ≤ steps_before pace at → step_moment pace number < at
+step_soon : (pace : Pace) (at number : ℕ) → IsPace pace → 1 ≤ number → number ≤ steps_before pace at
+    → step_moment pace number < at
 step_soon pace at number sound one few =
     let most = (le-div_iff_mul-le {k = pace.span} {x = number} {y = (at + pace.shift) * pace.parts - 1} sound.span).0 few in
     let some : 1 * pace.span ≤ number * pace.span = grind (arith, common_steps) in
@@ -40,7 +41,8 @@ step_soon pace at number sound one few =
     (omega (arith, most, some, sound.span)) in
     omega (arith, least, below)
 
-step_few : (pace : Pace) (at number : ℕ) → IsPace pace → 1 ≤ number → step_moment pace number < at → number ≤ steps_before pace at
+step_few : (pace : Pace) (at number : ℕ) → IsPace pace → 1 ≤ number → step_moment pace number < at
+    → number ≤ steps_before pace at
 step_few pace at number sound one soon =
     (le-div_iff_mul-le {k = pace.span} {x = number} {y = (at + pace.shift) * pace.parts - 1} sound.span).1
     (by_case (cases_lt (number * pace.span) ((at + pace.shift) * pace.parts))) where
@@ -48,7 +50,8 @@ step_few pace at number sound one soon =
           → number * pace.span ≤ (at + pace.shift) * pace.parts - 1
       by_case (inl h) = omega (arith, h)
       by_case (inr h) =
-          let late = le-div (at + pace.shift) (number * pace.span) pace.parts sound.parts h in absurd (omega (arith, late, soon))
+          let late = le-div (at + pace.shift) (number * pace.span) pace.parts sound.parts h in absurd (omega
+          (arith, late, soon))
 
 pub step_comes : (pace : Pace) (at number : ℕ) → IsPace pace → 1 ≤ number
     → (number ≤ steps_before pace at) ↔ (step_moment pace number < at)
@@ -74,7 +77,8 @@ same_ticks pace before at some later early = by_case (cases_lt (ticks_by pace be
       absurd (omega (arith, here, early))
   by_case (inr few) = omega (arith, few, ticks_rise pace before at some later)
 
-pub same_steps : (pace : Pace) (before at : ℕ) → IsPace pace → before ≤ at → at ≤ step_moment pace (steps_before pace before + 1)
+pub same_steps : (pace : Pace) (before at : ℕ) → IsPace pace → before ≤ at
+    → at ≤ step_moment pace (steps_before pace before + 1)
     → steps_before pace at ≡ steps_before pace before
 same_steps pace before at sound later early = by_case (cases_lt (steps_before pace before) (steps_before pace at)) where
   by_case : (steps_before pace before < steps_before pace at) ⊎ (steps_before pace at ≤ steps_before pace before)

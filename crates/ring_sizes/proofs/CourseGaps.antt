@@ -14,7 +14,7 @@ use Rattle.ring_sizes.specs.declared.events.Event.TheVariants.{Packet, Tick, Rea
 use Rattle.ring_sizes.specs.declared.paces.Arrival.{Arrival}
 use Rattle.ring_sizes.specs.declared.paces.Pace.{Pace}
 use Rattle.ring_sizes.specs.declared.paces.Stall.{Stall}
-use Rattle.ring_sizes.proofs.Gaps.{all_again, more_read, none_read, not_none}
+use Rattle.ring_sizes.proofs.ReaderSteps.{all_again, more_read, none_read, not_none}
 use Rattle.ring_sizes.proofs.Still.{released_few}
 
 module _ (room blocks tov : ℕ) where
@@ -117,7 +117,8 @@ module _ (room blocks : ℕ) (stalls : List Stall) (pace : Pace) where
       ap (go (schedule_from stalls pace at rest)) (next ∙ ap (went_on room blocks pace.tov (Packet arrival.need)) was)
       ∙ sym (run_append room blocks pace.tov (beats_between stalls pace since at)
       (Packet arrival.need ∷ schedule_from stalls pace at rest) course)
-      ∙ ap (λ (n : ℕ). go (beats_between stalls pace since n ++ Packet arrival.need ∷ schedule_from stalls pace n rest) course) is
+      ∙ ap (λ (n : ℕ). go (beats_between stalls pace since n ++ Packet arrival.need ∷ schedule_from stalls pace n rest) course)
+      is
       ∙ ap (λ (left : List Arrival). go (schedule_from stalls pace since left) course) (sym head)
       ∙ whole
 

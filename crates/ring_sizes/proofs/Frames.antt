@@ -11,7 +11,8 @@ use Rattle.ring_sizes.specs.declared.paces.Arrival.{Arrival}
 use Rattle.ring_sizes.specs.declared.paces.Pace.{Pace}
 use Rattle.ring_sizes.specs.declared.paces.Stall.{Stall}
 use Rattle.ring_sizes.specs.declared.sizes.Pass.{Pass}
-use Rattle.ring_sizes.proofs.Gaps.{gap, passed_append}
+use Rattle.ring_sizes.proofs.Gaps.{gap}
+use Rattle.ring_sizes.proofs.ReaderSteps.{passed_append}
 
 pub max_below : (one other bound : ℕ) → one < bound → other < bound → max one other < bound
 max_below one other bound h k = grind (arith, common_steps)
@@ -33,7 +34,8 @@ pub arrival_goes : (room : ℕ) (stalls : List Stall) (pace : Pace) (since at en
     → later ≡ passed room pace.tov (Packet (get_or arrivals index default).need) (rested stalls pace since at pass)
     → passed_all room pace.tov (schedule_from stalls pace since (drop index arrivals)) pass ≡ total
     → passed_all room pace.tov (schedule_from stalls pace end (drop (index + 1) arrivals)) later ≡ total
-arrival_goes room stalls pace since at end arrivals index default pass later total sound ticked inside is rises same goes whole =
+arrival_goes room stalls pace since at end arrivals index default pass later total sound ticked inside is rises same goes whole
+    =
     let arrival = get_or arrivals index default in
     let rest = drop (index + 1) arrivals in
     let head : drop index arrivals ≡ arrival ∷ rest = rw add-one (drop-cons arrivals index default inside) in

@@ -1,99 +1,20 @@
 -- What comes between two frames, done one by one, is what the arithmetic says.
-use Rattle.std.proofs.Common.{◌≡◌, ℕ, zero, suc, ◌+◌, ◌-◌, ◌*◌, ◌<◌, ◌≤◌, Bool, true, false, cond, List, [], ◌∷◌, ◌++◌}
-use Rattle.std.proofs.Common.{replicate, min, refl, sym, ap, subst, ◌∙◌, arith}
-use Rattle.std.specs.Prelude.{◌==◌, nat_lt, nat_le, ◌||◌}
+use Rattle.std.proofs.Common.{◌≡◌, ℕ, zero, suc, ◌+◌, ◌-◌, ◌*◌, ◌<◌, ◌≤◌, Bool, true, false, cond, List, ◌∷◌}
+use Rattle.std.proofs.Common.{refl, sym, ap, subst, ◌∙◌, arith}
+use Rattle.std.specs.Prelude.{nat_lt, nat_le, ◌||◌}
 use Rattle.std.proofs.Math.Nat.{mul-le-mul_right}
 use Rattle.std.proofs.lemmas.Grind.{common_steps}
-use Rattle.std.proofs.lemmas.List.{replicate-append-replicate}
-use Rattle.ring_sizes.specs.Passes.{passed, passed_all, ticked, with_next}
+use Rattle.ring_sizes.specs.Passes.{passed_all, ticked, with_next}
 use Rattle.ring_sizes.specs.Rests.{IsTicked, after_last, after_next, read_on, read_to, rested}
-use Rattle.ring_sizes.specs.Schedules.{IsPace, awake, beats, beats_between, step_event, steps_before}
+use Rattle.ring_sizes.specs.Schedules.{IsPace, awake, beats, beats_between, steps_before}
 use Rattle.ring_sizes.specs.Schedules.{steps_from, tick_moment, ticks_by}
 use Rattle.ring_sizes.specs.declared.events.Event.{Event}
-use Rattle.ring_sizes.specs.declared.events.Event.TheVariants.{Tick, Read, ReadAll}
+use Rattle.ring_sizes.specs.declared.events.Event.TheVariants.{Tick}
 use Rattle.ring_sizes.specs.declared.paces.Pace.{Pace}
 use Rattle.ring_sizes.specs.declared.paces.Stall.{Stall}
 use Rattle.ring_sizes.specs.declared.sizes.Pass.{Pass}
 use Rattle.ring_sizes.proofs.Counts.{next_tick, steps_rise, tick_comes}
-
-pub passed_append : (room tov : ℕ) (events more : List Event) (pass : Pass)
-    → passed_all room tov (events ++ more) pass ≡ passed_all room tov more (passed_all room tov events pass)
-passed_append room tov [] more pass = refl
-passed_append room tov (event ∷ events) more pass = passed_append room tov events more (passed room tov event pass)
-
--- ---- the reader's steps
-
-pub all_again : (none : Bool) (done : ℕ) → cond none done done ≡ done
-all_again true done = refl
-all_again false done = refl
-
-pub not_none : (steps : ℕ) (none : Bool) → (steps == 0) ≡ none → 0 < steps → none ≡ false
-not_none steps true e some = absurd (grind (arith, common_steps))
-not_none steps false e some = refl
-
-pub more_read : (more : ℕ) (released done : ℕ) → released < done
-    → released + 1 + min more (done - (released + 1)) ≡ released + min (suc more) (done - released)
-more_read more released done some = grind (arith, common_steps)
-
-pub none_read : (more : ℕ) (released done : ℕ) → done ≤ released
-    → released + min more (done - released) ≡ released + min (suc more) (done - released)
-none_read more released done none = grind (arith, common_steps)
-
-module _ (room tov : ℕ) where
-  reads_all : (steps : ℕ) (pass : Pass) → passed_all room tov (replicate steps ReadAll) pass ≡ read_on true steps pass
-  reads_all zero pass = refl
-  reads_all (suc more) pass =
-      reads_all more (record pass { released = pass.done })
-      ∙ ap (λ (n : ℕ). record pass { released = n })
-      (all_again (more == 0) pass.done
-      ∙ ap (λ (none : Bool). cond none pass.released pass.done) (sym (not_none (suc more) (suc more == 0) refl (omega arith))))
-
-  reads_one_by : (more : ℕ) (pass : Pass) (some : Bool) → nat_lt pass.released pass.done ≡ some
-      → ((later : Pass) → passed_all room tov (replicate more Read) later ≡ read_on false more later)
-      → passed_all room tov (replicate more Read) (cond some (record pass { released = pass.released + 1 }) pass)
-      ≡ read_on false (suc more) pass
-  reads_one_by more pass true e rest =
-      rest (record pass { released = pass.released + 1 })
-      ∙ ap (λ (n : ℕ). record pass { released = n }) (more_read more pass.released pass.done (grind (arith, common_steps)))
-  reads_one_by more pass false e rest =
-      rest pass
-      ∙ ap (λ (n : ℕ). record pass { released = n }) (none_read more pass.released pass.done (grind (arith, common_steps)))
-
-  reads_one : (steps : ℕ) (pass : Pass) → passed_all room tov (replicate steps Read) pass ≡ read_on false steps pass
-  reads_one zero pass =
-      let none : pass.released ≡ pass.released + min 0 (pass.done - pass.released) = omega arith in
-      ap (λ (n : ℕ). record pass { released = n }) none
-  reads_one (suc more) pass = reads_one_by more pass (nat_lt pass.released pass.done) refl (reads_one more)
-
-  pub reads : (takes_all : Bool) (steps : ℕ) (pass : Pass)
-      → passed_all room tov (replicate steps (step_event takes_all)) pass ≡ read_on takes_all steps pass
-  reads true steps pass = reads_all steps pass
-  reads false steps pass = reads_one steps pass
-
-reads_join : (takes_all : Bool) (steps more : ℕ) (pass : Pass)
-    → read_on takes_all more (read_on takes_all steps pass) ≡ read_on takes_all (steps + more) pass
-reads_join takes_all steps more pass =
-    sym (reads 0 0 takes_all more (read_on takes_all steps pass))
-    ∙ ap (passed_all 0 0 (replicate more (step_event takes_all))) (sym (reads 0 0 takes_all steps pass))
-    ∙ sym (passed_append 0 0 (replicate steps (step_event takes_all)) (replicate more (step_event takes_all)) pass)
-    ∙ ap (λ (events : List Event). passed_all 0 0 events pass) (replicate-append-replicate steps more (step_event takes_all))
-    ∙ reads 0 0 takes_all (steps + more) pass
-
-awake_join : (stalls : List Stall) (pace : Pace) (done steps more : ℕ)
-    → awake stalls pace done steps + awake stalls pace (done + steps) more ≡ awake stalls pace done (steps + more)
-awake_join stalls pace done zero more =
-    let a : done + 0 ≡ done = omega arith in
-    let b : 0 + more ≡ more = omega arith in
-    let from = ap (λ (n : ℕ). awake stalls pace n more) a in
-    let to = ap (awake stalls pace done) b in
-    omega (arith, from, to)
-awake_join stalls pace done (suc steps) more =
-    let rest = awake_join stalls pace (done + 1) steps more in
-    let e : done + 1 + steps ≡ done + suc steps = omega arith in
-    let f : suc (steps + more) ≡ suc steps + more = omega arith in
-    let from = ap (λ (n : ℕ). awake stalls pace n more) e in
-    let to = ap (awake stalls pace done) f in
-    omega (arith, rest, from, to)
+use Rattle.ring_sizes.proofs.ReaderSteps.{awake_join, passed_append, reads, reads_join}
 
 -- ---- ticks of an empty block
 
@@ -113,7 +34,16 @@ not_early ms deadline false e due = refl
 due_empty : (tov ms : ℕ) (pass : Pass) → pass.empty ≡ true → pass.deadline ≤ ms
     → ticked tov ms pass ≡ record pass { clock = ms; deadline = ms + tov }
 due_empty tov ms pass empty due =
-    due_by tov ms pass (nat_lt ms pass.deadline) pass.empty (not_early ms pass.deadline (nat_lt ms pass.deadline) refl due) empty
+    due_by tov ms pass (nat_lt ms pass.deadline) pass.empty (not_early ms pass.deadline
+    (nat_lt ms pass.deadline) refl due) empty
+
+none_later : (next last : ℕ) (more : Bool) → nat_lt next last ≡ more → last ≤ next → false ≡ nat_lt next last
+none_later next last true e h = absurd (grind (arith, common_steps))
+none_later next last false e h = sym e
+
+some_later : (next last : ℕ) (more : Bool) → nat_lt next last ≡ more → next < last → true ≡ nat_lt next last
+some_later next last true e h = sym e
+some_later next last false e h = absurd (grind (arith, common_steps))
 
 module _ (room : ℕ) (stalls : List Stall) (pace : Pace) (sound : IsPace pace) where
   abbrev run : List Event → Pass → Pass
@@ -223,7 +153,8 @@ module _ (room : ℕ) (stalls : List Stall) (pace : Pace) (sound : IsPace pace) 
   ticked_empty ms pass false false e same = (refl, refl, refl)
 
   -- more ticks come: the next one and the rest
-  ticks_run : (more last since at : ℕ) (pass : Pass) (empty : Bool) → empty ≡ pass.empty → IsTicked pace (ticks_by pace since) pass
+  ticks_run : (more last since at : ℕ) (pass : Pass) (empty : Bool) → empty ≡ pass.empty
+      → IsTicked pace (ticks_by pace since) pass
       → last ≡ ticks_by pace since + suc more → last ≡ ticks_by pace at → since ≤ at
       → run (beats stalls pace (suc more) (ticks_by pace since) since at) pass
       ≡ cond empty (read (upto since) (upto at) (tick last pass))
@@ -250,7 +181,8 @@ module _ (room : ℕ) (stalls : List Stall) (pace : Pace) (sound : IsPace pace) 
             let first = tick (ticks + 1) (read (upto since) (upto next) pass) in
             run (beats stalls pace (suc more) ticks since at) pass ≡ read (upto next) (upto at) (at_tick last first)
             → pass.deadline ≤ (ticks + 1) * pace.tov → since ≤ next → next ≤ at
-            → (first.empty ≡ true) × (first.clock ≡ (ticks + 1) * pace.tov) × (first.deadline ≡ (ticks + 1) * pace.tov + pace.tov)
+            → (first.empty ≡ true) × (first.clock ≡ (ticks + 1) * pace.tov) × (first.deadline
+            ≡ (ticks + 1) * pace.tov + pace.tov)
             → run (beats stalls pace (suc more) ticks since at) pass
             ≡ cond empty (read (upto since) (upto at) (tick last pass))
             (read (upto next) (upto at) (after_last pace (ticks + 1) last (after_next stalls pace since pass)))
@@ -263,14 +195,16 @@ module _ (room : ℕ) (stalls : List Stall) (pace : Pace) (sound : IsPace pace) 
             (due_empty pace.tov ((ticks + 1) * pace.tov) (read (upto since) (upto next) pass) (sym same) due)
             ∙ join (upto since) (upto next) (upto at) (at_tick last pass) (steps_rise pace since next sound soon)
             (steps_rise pace next at sound by)
-            ∙ ap (read (upto since) (upto at)) (sym (due_empty pace.tov (last * pace.tov) pass (sym same) (omega (arith, due, most))))
+            ∙ ap (read (upto since) (upto at)) (sym (due_empty pace.tov (last * pace.tov) pass (sym same) (omega
+            (arith, due, most))))
         by_empty false same rest due soon by opened =
             let ticks = ticks_by pace since in
             let next = tick_moment pace (ticks + 1) in
             let first = tick (ticks + 1) (read (upto since) (upto next) pass) in
             rest
             ∙ ap (read (upto next) (upto at))
-            (sym (last_empty (ticks + 1) last first (nat_lt (ticks + 1) last) refl (omega (arith, e)) opened.0 opened.1 opened.2))
+            (sym (last_empty (ticks + 1) last first (nat_lt (ticks + 1) last) refl (omega
+            (arith, e)) opened.0 opened.1 opened.2))
 
   gap_by : (more since at : ℕ) (pass : Pass) (empty few : Bool) → empty ≡ pass.empty
       → nat_le (ticks_by pace at) (ticks_by pace since) ≡ few
@@ -283,29 +217,19 @@ module _ (room : ℕ) (stalls : List Stall) (pace : Pace) (sound : IsPace pace) 
   gap_by zero since at pass true few same e m h later =
       steps_run since at pass
       ∙ ap (λ (more : Bool). read (upto since) (upto at) (cond more (tick (ticks_by pace at) pass) pass))
-      (none_later (ticks_by pace since) (ticks_by pace at) (nat_lt (ticks_by pace since) (ticks_by pace at)) refl (omega (arith, m)))
-    where
-      none_later : (next last : ℕ) (more : Bool) → nat_lt next last ≡ more → last ≤ next → false ≡ nat_lt next last
-      none_later next last true e h = absurd (grind (arith, common_steps))
-      none_later next last false e h = sym e
+      (none_later (ticks_by pace since) (ticks_by pace at) (nat_lt (ticks_by pace since) (ticks_by pace at)) refl (omega
+      (arith, m)))
   gap_by zero since at pass false true same e m h later =
       steps_run since at pass
       ∙ ap (λ (more : Bool). read (upto since) (upto at) (cond more (tick (ticks_by pace at) pass) pass))
-      (none_later (ticks_by pace since) (ticks_by pace at) (nat_lt (ticks_by pace since) (ticks_by pace at)) refl (omega (arith, m)))
-    where
-      none_later : (next last : ℕ) (more : Bool) → nat_lt next last ≡ more → last ≤ next → false ≡ nat_lt next last
-      none_later next last true e h = absurd (grind (arith, common_steps))
-      none_later next last false e h = sym e
+      (none_later (ticks_by pace since) (ticks_by pace at) (nat_lt (ticks_by pace since) (ticks_by pace at)) refl (omega
+      (arith, m)))
   gap_by zero since at pass false false same e m h later = absurd (grind (arith, common_steps))
   gap_by (suc more) since at pass true few same e m h later =
       ticks_run more (ticks_by pace at) since at pass true same h (omega (arith, m)) refl later
       ∙ ap (λ (some : Bool). read (upto since) (upto at) (cond some (tick (ticks_by pace at) pass) pass))
       (some_later (ticks_by pace since) (ticks_by pace at) (nat_lt (ticks_by pace since) (ticks_by pace at)) refl
       (omega (arith, m)))
-    where
-      some_later : (next last : ℕ) (more : Bool) → nat_lt next last ≡ more → next < last → true ≡ nat_lt next last
-      some_later next last true e h = sym e
-      some_later next last false e h = absurd (grind (arith, common_steps))
   gap_by (suc more) since at pass false true same e m h later = absurd (grind (arith, common_steps))
   gap_by (suc more) since at pass false false same e m h later =
       ticks_run more (ticks_by pace at) since at pass false same h (omega (arith, m)) refl later

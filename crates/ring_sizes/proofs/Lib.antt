@@ -1,11 +1,13 @@
 pub mod Steps
 pub mod Never
 pub mod Within
+pub mod CourseSteps
 pub mod Runs
 pub mod Small
 pub mod ManyReads
 pub mod NoFreeze
 pub mod Counts
+pub mod ReaderSteps
 pub mod Gaps
 pub mod Still
 pub mod Frames

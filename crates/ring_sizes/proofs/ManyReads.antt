@@ -21,7 +21,8 @@ use Rattle.ring_sizes.specs.declared.courses.Course.{Course}
 use Rattle.ring_sizes.specs.declared.events.Event.{Event}
 use Rattle.ring_sizes.specs.declared.events.Event.TheVariants as events
 use Rattle.ring_sizes.proofs.Never.{ring}
-use Rattle.ring_sizes.proofs.Runs.{course_of, runs}
+use Rattle.ring_sizes.proofs.CourseSteps.{course_of}
+use Rattle.ring_sizes.proofs.Runs.{runs}
 
 -- no more blocks are out than the ring has, and none that isn't retired is released
 record Bound (blocks : ℕ) (course : Course) : Type 0 where

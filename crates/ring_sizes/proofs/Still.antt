@@ -122,7 +122,11 @@ ticked_by : (pace : Pace) (first last : ℕ) (pass : Pass) (early empty : Bool) 
       deadline = last * pace.tov + pace.tov;
     })))
 ticked_by pace first last pass true empty due later =
-    let more = mul-le-mul_right {m = first} {n = last} pace.tov later in record { clock = refl; deadline = omega (arith, due, more) }
+    let more = mul-le-mul_right {m = first} {n = last} pace.tov later in record {
+      clock = refl;
+      deadline = omega
+          (arith, due, more);
+    }
 ticked_by pace first last pass false true due later = record { clock = refl; deadline = omega arith }
 ticked_by pace first last pass false false due later = record { clock = refl; deadline = omega arith }
 

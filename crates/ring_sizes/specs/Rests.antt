@@ -1,5 +1,6 @@
 -- What a pass comes to between two frames, by arithmetic.
-use Rattle.std.specs.Prelude.{◌≡◌, ℕ, ◌+◌, ◌-◌, ◌*◌, ◌≤◌, min, Bool, ◌==◌, nat_lt, nat_le, ◌||◌, if◌then◌else◌}
+use Rattle.std.specs.Prelude.{◌≡◌, ℕ, ◌+◌, ◌-◌, ◌*◌, ◌≤◌}
+use Rattle.std.specs.Prelude.{min, Bool, ◌==◌, nat_lt, nat_le, ◌||◌, if◌then◌else◌}
 use Rattle.std.specs.Prelude.{List}
 use Rattle.ring_sizes.specs.Passes.{ticked}
 use Rattle.ring_sizes.specs.Schedules.{awake, steps_before, tick_moment, ticks_by}

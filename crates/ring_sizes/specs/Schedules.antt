@@ -2,7 +2,8 @@
 -- Moments are in nanoseconds from the first frame on; at one moment ticks come first, then frames,
 -- then the reader's steps.
 use Rattle.std.specs.Prelude.{ℕ, zero, suc, ◌+◌, ◌-◌, ◌*◌, ◌/◌, ◌<◌, ◌≤◌, ◌^◌, max, Bool, false}
-use Rattle.std.specs.Prelude.{List, [], ◌∷◌, ◌++◌, replicate, nat_le, nat_lt, if◌then◌else◌, ◌&&◌, ◌||◌}
+use Rattle.std.specs.Prelude.{List, [], ◌∷◌, ◌++◌, replicate}
+use Rattle.std.specs.Prelude.{nat_le, nat_lt, if◌then◌else◌, ◌&&◌, ◌||◌}
 use Rattle.ring_sizes.specs.declared.events.Event.{Event}
 use Rattle.ring_sizes.specs.declared.events.Event.TheVariants.{Packet, Tick, Read, ReadAll}
 use Rattle.ring_sizes.specs.declared.paces.Arrival.{Arrival}
@@ -17,7 +18,7 @@ tick_moment pace number = number * (pace.tov * 1000000) - pace.phase * 1000000
 abbrev pub ticks_by : Pace → ℕ → ℕ
 ticks_by pace at = (at + pace.phase * 1000000) / (pace.tov * 1000000)
 
--- the moment of the reader's n-th step, counted from 1: n spans divided by the parts, less the shift
+-- the moment of the reader's n-th step, counted from 1: n spans divided by the parts, less a shift
 abbrev pub step_moment : Pace → ℕ → ℕ
 step_moment pace number = number * pace.span / pace.parts - pace.shift
 

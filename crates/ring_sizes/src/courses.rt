@@ -48,7 +48,8 @@ pub struct Course {
 /// number of them, and this time-out in milliseconds.
 pub fn losses(room: u32, blocks: u32, tov: u64, events: &[Event]) -> Stats
     ensures { (happenings : List Happening) → events_of happenings ≡ events.now
-        → IsPlain happenings → let size : Size = record { room = room; blocks = blocks; tov = tov } in
+        → IsPlain happenings
+        → let size : Size = record { room = room; blocks = blocks; tov = tov } in
         result ≡ totals_of size (all_happened happenings (fresh size)).notes }
 {
     let mut course = Course::new(tov);

@@ -3,3 +3,5 @@
 
 #[cfg(test)]
 mod event_lists;
+#[cfg(test)]
+mod paced_frames;

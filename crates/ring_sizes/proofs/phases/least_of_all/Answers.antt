@@ -19,15 +19,18 @@ loop-phase-preserved c =
       far =
           elim c.if-worst-found.branch [
             | then-worst-found w ↦
-                subst (IsPhaseSoFar c.args.room c.args.stalls.now c.args.pace.now c.args.beginnings c.args.arrivals.now (phase + 1))
+                subst (IsPhaseSoFar c.args.room c.args.stalls.now c.args.pace.now c.args.beginnings c.args.arrivals.now
+                (phase + 1))
                 (sym w.worst-is)
                 (worse_phase c.args.room c.args.stalls.now c.args.pace.now c.args.beginnings c.args.arrivals.now phase
                 c.loop-phase.worst found c.loop-phase.invariant.far new c.worst_at-found.ensures.phase w.if-worst-found.true)
             | else-worst-found w ↦
-                subst (IsPhaseSoFar c.args.room c.args.stalls.now c.args.pace.now c.args.beginnings c.args.arrivals.now (phase + 1))
+                subst (IsPhaseSoFar c.args.room c.args.stalls.now c.args.pace.now c.args.beginnings c.args.arrivals.now
+                (phase + 1))
                 (sym w.worst-is)
                 (not_worse_phase c.args.room c.args.stalls.now c.args.pace.now c.args.beginnings c.args.arrivals.now phase
-                c.loop-phase.worst found c.loop-phase.invariant.far new (omega (arith, some, first.reached)) w.if-worst-found.false)
+                c.loop-phase.worst found c.loop-phase.invariant.far new (omega
+                (arith, some, first.reached)) w.if-worst-found.false)
           ];
     }
 
@@ -43,7 +46,8 @@ pub returns-clause-reached : goal.returns-clause-reached
 returns-clause-reached c = λ blocks happenings same some.
     let worst : Worst = c.loop-phase.worst in
     let pace = begun c.args.pace.now worst.phase worst.from in
-    let reached = (c.loop-phase.invariant.far.beginning (omega (arith, c.loop-phase-test.false, c.requires.begun.tov))).reached in
+    let reached = (c.loop-phase.invariant.far.beginning (omega (arith, c.loop-phase-test.false, c.requires.begun.tov))).reached
+    in
     subst (λ (least : ℕ). NeverFreezes (record { room = c.args.room; blocks = blocks; tov = c.args.pace.now.tov }) happenings
     ↔ (least ≤ blocks)) (sym reached)
     (never_at c.args.room blocks c.args.stalls.now pace c.args.arrivals.now happenings same some)

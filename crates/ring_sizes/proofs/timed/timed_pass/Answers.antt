@@ -57,7 +57,8 @@ loop-arrival-preserved c =
       ticked =
           subst (IsTicked c.args.pace.now (ticks_by c.args.pace.now c.go_on-place.result.at)) (sym next)
           (packet_ticked c.args.room arrival.need c.args.pace.now _ c.go_on-place.new.pass
-          (subst (λ (at : ℕ). IsTicked c.args.pace.now (ticks_by c.args.pace.now at) c.go_on-place.new.pass) (sym at_is) ticked));
+          (subst (λ (at : ℕ). IsTicked c.args.pace.now (ticks_by c.args.pace.now at) c.go_on-place.new.pass)
+          (sym at_is) ticked));
       goes =
           arrival_goes c.args.room c.args.stalls.now c.args.pace.now since at c.go_on-place.result.at c.args.arrivals.now
           c.loop-arrival.arrival-index none c.loop-arrival.pass c.take.new.self _ c.requires.sound

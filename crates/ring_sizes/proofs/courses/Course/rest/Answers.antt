@@ -33,7 +33,8 @@ loop-ticks-preserved c =
     let more : ticks < ticks_by c.args.pace.now c.args.at =
     omega (arith, c.loop-ticks-test.true, c.ticks_by-last.ensures) in
     let by = (tick_comes c.args.pace.now c.args.at (ticks + 1) c.requires.sound.tov).0 (omega (arith, more)) in
-    let goes : c.tick.new.self ≡ over_time c.args.blocks c.args.pace.now.tov ((ticks + 1) * c.args.pace.now.tov) c.read_from.new.self =
+    let goes : c.tick.new.self ≡ over_time c.args.blocks c.args.pace.now.tov
+    ((ticks + 1) * c.args.pace.now.tov) c.read_from.new.self =
     c.tick.ensures.goes
     ∙ ap (λ (tov : ℕ). over_time c.args.blocks tov ((ticks + 1) * tov) c.read_from.new.self) c.from-tov.ensures in
     record {

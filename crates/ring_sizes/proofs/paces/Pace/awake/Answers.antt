@@ -16,7 +16,8 @@ loop-done-preserved c =
     c.loop-done.invariant.goes in
     elim c.if-not-is_stalled.branch [
       | then-not-is_stalled w ↦
-          (let free : is_stalled c.args.stalls.now (step_moment c.args.self.now (c.loop-done.done + 1)) ≡ false = search rules in
+          (let free : is_stalled c.args.stalls.now (step_moment c.args.self.now (c.loop-done.done + 1))
+          ≡ false = search rules in
           let one = one_awake _ free in
           record { few = omega (arith, w.awake-is, c.loop-done.invariant.few); goes = omega (arith, w.awake-is, next, one) })
       | else-not-is_stalled w ↦

@@ -7,7 +7,8 @@ use Rattle.ring_sizes.proofs.timed.Place.go_on.Goals as goal
 
 pub returns-then-at-self-2-clause-place : goal.returns-then-at-self-2-clause-place
 returns-then-at-self-2-clause-place c =
-    same_place c.args.pace.now c.args.self c.args.at c.requires.sound c.requires.place c.requires.later (search rules) (search rules)
+    same_place c.args.pace.now c.args.self c.args.at c.requires.sound c.requires.place c.requires.later (search rules)
+    (search rules)
 
 pub returns-then-at-self-2-clause-goes : goal.returns-then-at-self-2-clause-goes
 returns-then-at-self-2-clause-goes c =
