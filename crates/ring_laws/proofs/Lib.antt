@@ -1,0 +1,13 @@
+pub mod Noted
+pub mod LikeNotes
+pub mod LikeStates
+pub mod LikeRings
+pub mod LikeStats
+pub mod NoFreezes
+pub mod DueTicks
+pub mod Fillings
+pub mod GivenBack
+pub mod Crowds
+pub mod Beginnings
+pub mod Bounds
+pub mod SureCuts

@@ -1,0 +1,4 @@
+pub mod Alike
+pub mod Beginnings
+pub mod Runs
+pub mod Freezes
