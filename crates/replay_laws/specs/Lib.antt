@@ -1,0 +1,3 @@
+pub mod Larger
+pub mod LargerJobs
+pub mod Alone

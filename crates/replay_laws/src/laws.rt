@@ -1,0 +1,100 @@
+//! Laws of replays, each the contract of a function that does nothing.
+ghost use Rattle.std.specs.Prelude.{◌≡◌, false, ℕ, List, map, Option, All};
+ghost use Rattle.capture_file.specs.declared.cpu_end.CpuEnd.{CpuEnd};
+ghost use Rattle.frame_view.specs.declared.frames.Frame.{Frame};
+ghost use Rattle.fanout_group.specs.Rules.{Rules, rolls_over};
+ghost use Rattle.receive_ring.specs.Replay.{finished_ring, replayed};
+ghost use Rattle.receive_ring.specs.RingSteps.{RingSteps, block_steps};
+ghost use Rattle.receive_ring.specs.SlotRings.{slot_steps};
+ghost use Rattle.replay_laws.specs.Alone.{alone, dealt};
+ghost use Rattle.replay_laws.specs.Larger.{IsLarger, IsSame};
+ghost use Rattle.replay_laws.specs.LargerJobs.{HasMoreBlocks, HasMoreSlots, ShowsNoFreeze};
+ghost use Rattle.ring_events.specs.Happenings.{IsNeverHeld, all_happened};
+ghost use Rattle.ring_model.specs.Ring.{Size};
+ghost use Rattle.ring_model.specs.Rings.{fresh};
+ghost use Rattle.run_reports.specs.Jobs.{rules_of};
+ghost use Rattle.run_reports.specs.Reports.{IsRunReport};
+ghost use Rattle.run_reports.specs.declared.reports.RunReport.{RunReport};
+ghost use Rattle.setup_text.specs.declared.jobs.Job.{Job};
+ghost use Rattle.setup_text.specs.declared.lines.Line.{Line};
+ghost use Rattle.tap_replay.specs.Runs.{report_of};
+ghost use Rattle.v2_replay.specs.SlotRuns.{slot_report_of};
+
+use ring_laws::a_ring_that_counted_no_freeze_found_none_held;
+
+/// A replay of which no note found its block, or slot, still the reader's is that of rings with
+/// more of them too: the same logs, notes and released blocks. So where rings of some number of
+/// blocks never freeze, none with more do.
+pub fn a_ring_that_never_froze_is_as_good_as_a_larger_one()
+    ensures blocks { (rules : Rules) (size larger : Size) (arriving : List (List (Option Frame)))
+        (lines : List Line)
+        → IsLarger size larger
+        → All (λ ring. IsNeverHeld ring.notes)
+        (replayed rules (block_steps size) arriving lines).members
+        → IsSame (replayed rules (block_steps size) arriving lines)
+        (replayed rules (block_steps larger) arriving lines) }
+    ensures slots { (rules : Rules) (size larger : Size) (arriving : List (List (Option Frame)))
+        (lines : List Line)
+        → IsLarger size larger
+        → All (λ ring. IsNeverHeld ring.notes)
+        (replayed rules (slot_steps size) arriving lines).members
+        → IsSame (replayed rules (slot_steps size) arriving lines)
+        (replayed rules (slot_steps larger) arriving lines) }
+{}
+
+/// Without rollover the members of a group stand alone: each ring does what it would do alone with
+/// what its member is given, which neither the other rings nor its own size decide.
+pub fn members_stand_alone_without_rollover()
+    ensures steps { (rules : Rules) (steps : RingSteps) (arriving : List (List (Option Frame)))
+        (lines : List Line)
+        → rolls_over rules ≡ false
+        → (replayed rules steps arriving lines).members
+        ≡ map (alone steps) (dealt rules steps.size.room arriving lines) }
+    ensures blocks { (rules : Rules) (size : Size) (arriving : List (List (Option Frame)))
+        (lines : List Line)
+        → rolls_over rules ≡ false
+        → (replayed rules (block_steps size) arriving lines).members
+        ≡ map (λ given. finished_ring (all_happened given (fresh size)))
+        (dealt rules size.room arriving lines) }
+{}
+
+/// The report of a replay of which no note says that a block, or slot, was still the reader's is
+/// that of the same job over rings with more of them. So the least number with which no ring
+/// freezes is a threshold.
+pub fn a_job_that_never_froze_reports_as_with_more_blocks()
+    ensures blocks { (job other : Job) (lines : List Line) (all : List (List ℕ))
+        (ends : List CpuEnd)
+        → HasMoreBlocks job other
+        → All (λ member. IsNeverHeld member.notes) (report_of job lines all ends).members
+        → report_of other lines all ends ≡ report_of job lines all ends }
+    ensures slots { (job other : Job) (lines : List Line) (all : List (List ℕ))
+        (ends : List CpuEnd)
+        → HasMoreSlots job other
+        → All (λ member. IsNeverHeld member.notes) (slot_report_of job lines all ends).members
+        → slot_report_of other lines all ends ≡ slot_report_of job lines all ends }
+{}
+
+/// In the report of a run without rollover a member whose line has `freezes 0` found no block still
+/// the reader's: no packet is handed back, and each block found held would be a drop or a freeze.
+pub fn a_member_without_a_freeze_found_none_held()
+    ensures { (job : Job) (bytes : List (List ℕ)) (ends : List CpuEnd) (report : RunReport)
+        → IsRunReport job bytes ends report → rolls_over (rules_of job) ≡ false
+        → All (λ member. ShowsNoFreeze job.setup.shape member → IsNeverHeld member.notes)
+        report.members }
+{
+    a_ring_that_counted_no_freeze_found_none_held();
+}
+
+/// Without rollover a replay whose lines all have `freezes 0` reports the same over rings with more
+/// blocks.
+pub fn a_replay_without_a_freeze_reports_as_with_more_blocks()
+    ensures { (job other : Job) (lines : List Line) (bytes : List (List ℕ)) (ends : List CpuEnd)
+        → IsRunReport job bytes ends (report_of job lines bytes ends)
+        → rolls_over (rules_of job) ≡ false
+        → All (ShowsNoFreeze job.setup.shape) (report_of job lines bytes ends).members
+        → HasMoreBlocks job other
+        → report_of other lines bytes ends ≡ report_of job lines bytes ends }
+{
+    a_member_without_a_freeze_found_none_held();
+    a_job_that_never_froze_reports_as_with_more_blocks();
+}
