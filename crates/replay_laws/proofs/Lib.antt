@@ -6,3 +6,5 @@ pub mod LargerSteps
 pub mod LargerReports
 pub mod PrintedFreezes
 pub mod Alone
+pub mod AlikeSlots
+pub mod Courses

@@ -1,3 +1,4 @@
 pub mod Larger
 pub mod LargerJobs
 pub mod Alone
+pub mod AlikeSlots

@@ -1,20 +1,26 @@
 //! Laws of replays, each the contract of a function that does nothing.
-ghost use Rattle.std.specs.Prelude.{◌≡◌, false, ℕ, List, map, Option, All};
+ghost use Rattle.std.specs.Prelude.{◌≡◌, ◌<◌, ◌≤◌, ◌%◌, false, ℕ, List, map, Option, All};
+ghost use Rattle.std.specs.List.{AllByRecursion};
 ghost use Rattle.capture_file.specs.declared.cpu_end.CpuEnd.{CpuEnd};
 ghost use Rattle.frame_view.specs.declared.frames.Frame.{Frame};
 ghost use Rattle.fanout_group.specs.Rules.{Rules, rolls_over};
 ghost use Rattle.receive_ring.specs.Replay.{finished_ring, replayed};
 ghost use Rattle.receive_ring.specs.RingSteps.{RingSteps, block_steps};
 ghost use Rattle.receive_ring.specs.SlotRings.{slot_steps};
-ghost use Rattle.replay_laws.specs.Alone.{alone, dealt};
+ghost use Rattle.replay_laws.specs.AlikeSlots.{IsLikeSlotRing, KeepsTags, SlotsWentOnAlike};
+ghost use Rattle.replay_laws.specs.Alone.{all_happened_by, alone, dealt};
 ghost use Rattle.replay_laws.specs.Larger.{IsLarger, IsSame};
 ghost use Rattle.replay_laws.specs.LargerJobs.{HasMoreBlocks, HasMoreSlots, ShowsNoFreeze};
 ghost use Rattle.ring_events.specs.Happenings.{IsNeverHeld, all_happened};
+ghost use Rattle.ring_events.specs.declared.events.Happening.{Happening};
+ghost use Rattle.ring_laws.specs.Alike.{AreLikeHappenings, Gap, KeepsSnaps};
+ghost use Rattle.ring_laws.specs.Runs.{IsCourse};
 ghost use Rattle.ring_model.specs.Ring.{Size};
-ghost use Rattle.ring_model.specs.Rings.{fresh};
+ghost use Rattle.ring_model.specs.Rings.{Ring, fresh};
 ghost use Rattle.run_reports.specs.Jobs.{rules_of};
 ghost use Rattle.run_reports.specs.Reports.{IsRunReport};
 ghost use Rattle.run_reports.specs.declared.reports.RunReport.{RunReport};
+ghost use Rattle.setup_text.specs.TickOrder.{IsSchedule};
 ghost use Rattle.setup_text.specs.declared.jobs.Job.{Job};
 ghost use Rattle.setup_text.specs.declared.lines.Line.{Line};
 ghost use Rattle.tap_replay.specs.Runs.{report_of};
@@ -58,6 +64,16 @@ pub fn members_stand_alone_without_rollover()
         (dealt rules size.room arriving lines) }
 {}
 
+/// What each member is given by a schedule is a course of a ring of any blocks: so what ring_laws
+/// says of runs holds of the rings of a replay without rollover.
+pub fn each_member_is_given_a_course()
+    ensures { (rules : Rules) (size : Size) (arriving : List (List (Option Frame)))
+        (lines : List Line)
+        → IsSchedule lines → 2 ≤ size.blocks → 0 < size.tov
+        → 88 ≤ size.room → size.room % 8 ≡ 0
+        → AllByRecursion (IsCourse size) (dealt rules size.room arriving lines) }
+{}
+
 /// The report of a replay of which no note says that a block, or slot, was still the reader's is
 /// that of the same job over rings with more of them. So the least number with which no ring
 /// freezes is a threshold.
@@ -98,3 +114,15 @@ pub fn a_replay_without_a_freeze_reports_as_with_more_blocks()
     a_member_without_a_freeze_found_none_held();
     a_job_that_never_froze_reports_as_with_more_blocks();
 }
+
+/// Two rings of as many slots go on alike, whatever happens to them, if equally many filled slots
+/// are with the reader and packets were lost in both or in neither: they keep and drop the same
+/// packets and fill the same slots, but for the numbers of slots. There is no open block and no
+/// deadline, so a run may be cut wherever all slots are given back.
+pub fn rings_of_slots_alike_go_on_alike()
+    ensures { (gap : Gap) (size : Size) (happenings others : List Happening) (one other : Ring)
+        → KeepsSnaps gap → KeepsTags gap → IsLikeSlotRing gap one other
+        → AreLikeHappenings gap happenings others
+        → SlotsWentOnAlike gap one other (all_happened_by (slot_steps size) happenings one)
+        (all_happened_by (slot_steps size) others other) }
+{}

@@ -45,7 +45,7 @@ module _ (gap : Gap) (snaps : KeepsSnaps gap) (size : Size) where
   held_like released other_released next other_next false true e f r n = absurd (grind (arith, common_steps))
   held_like released other_released next other_next false false e f r n = tt
 
-  look_like : (released other_released next other_next : ℕ) → AreBlocks gap released other_released
+  pub look_like : (released other_released next other_next : ℕ) → AreBlocks gap released other_released
       → AreBlocks gap next other_next
       → IsLikeFound gap (cond (nat_lt released (next - size.blocks)) (Held (next - size.blocks)) Free)
       (cond (nat_lt other_released (other_next - size.blocks)) (Held (other_next - size.blocks)) Free)

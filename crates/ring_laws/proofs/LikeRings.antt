@@ -49,7 +49,7 @@ module _ (gap : Gap) (snaps : KeepsSnaps gap) (size : Size) where
         };
       }
 
-  unread_same : (released other_released long other_long : ℕ) → AreBlocks gap released other_released
+  pub unread_same : (released other_released long other_long : ℕ) → AreBlocks gap released other_released
       → AreBlocks gap long other_long
       → nat_lt other_released other_long ≡ nat_lt released long
   unread_same released other_released long other_long r l = grind (arith, common_steps)
@@ -126,7 +126,7 @@ module _ (gap : Gap) (snaps : KeepsSnaps gap) (size : Size) where
   happening_like Count Count one other e h k = noted_like one other Counted Counted e h tt
   happening_like happening second one other e h k = absurd k
 
-  notes_append : (a b x y : List Note) → AreLikeNotes gap a x → AreLikeNotes gap b y → AreLikeNotes gap (a ++ b) (x ++ y)
+  pub notes_append : (a b x y : List Note) → AreLikeNotes gap a x → AreLikeNotes gap b y → AreLikeNotes gap (a ++ b) (x ++ y)
   notes_append [] b [] y h k = k
   notes_append [] b (second ∷ x) y h k = absurd h
   notes_append (note ∷ a) b [] y h k = absurd h
