@@ -62,10 +62,10 @@ given_on room clock later given last h fits follows =
     record { fit = fits_on room given last h.fit fits; rise = rises_on 0 clock later given last h.rise follows }
 
 -- an offer is cut to the room, which is a multiple of 8
-need_cut : (room : ℕ) → room % 8 ≡ 0 → 88 ≤ room → (captured verdict : ℕ) → need_of (snap_of room captured verdict) ≤ room
+need_cut : (room : ℕ) → room % 8 ≡ 0 → 82 < room → (captured verdict : ℕ) → need_of (snap_of room captured verdict) ≤ room
 need_cut room whole large captured verdict = omega arith
 
-module _ (rules : Rules) (room : ℕ) (whole : room % 8 ≡ 0) (large : 88 ≤ room) where
+module _ (rules : Rules) (room : ℕ) (whole : room % 8 ≡ 0) (large : 82 < room) where
   one_on : (clock : ℕ) (all : List (List Happening)) (member : ℕ) (last : Happening) → AllByRecursion (IsGiven room clock) all
       → Fits room last → Follows clock clock last → AllByRecursion (IsGiven room clock) (given_at member last all)
   one_on clock [] member last h fits follows = tt

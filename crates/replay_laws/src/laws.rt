@@ -70,7 +70,7 @@ pub fn each_member_is_given_a_course()
     ensures { (rules : Rules) (size : Size) (arriving : List (List (Option Frame)))
         (lines : List Line)
         → IsSchedule lines → 2 ≤ size.blocks → 0 < size.tov
-        → 88 ≤ size.room → size.room % 8 ≡ 0
+        → 82 < size.room → size.room % 8 ≡ 0
         → AllByRecursion (IsCourse size) (dealt rules size.room arriving lines) }
 {}
 

@@ -152,12 +152,7 @@ module _ (gap : Gap) (snaps : KeepsSnaps gap) (size : Size) where
       steps_by one other _ _ ((offer ∷ offers, status_of true one) ∷ []) h refl
       (ap (λ (status : ℕ). other.done ++ (map gap.offer (offer ∷ offers), status) ∷ []) (status_same true one other h)) refl m
       (omega (arith, m)) h.losing
-  due_steps one other now NotAsked Free ms other_ms h k m = absurd k
-  due_steps one other now NotAsked (Held number) ms other_ms h k m = absurd k
-  due_steps one other now Free NotAsked ms other_ms h k m = absurd k
-  due_steps one other now Free (Held number) ms other_ms h k m = absurd k
-  due_steps one other now (Held number) NotAsked ms other_ms h k m = absurd k
-  due_steps one other now (Held number) Free ms other_ms h k m = absurd k
+  due_steps one other now found second ms other_ms h k m = absurd k
 
   tick_steps : (one other : State) (now : Option (List Offer)) (found second : Found) (ms other_ms : ℕ) (early : Bool)
       → Base gap one other → IsLikeFound gap found second → AreMoments gap ms other_ms
@@ -179,23 +174,23 @@ module _ (gap : Gap) (snaps : KeepsSnaps gap) (size : Size) where
       (retired_other other.done (status_of false one) (status_of false other) now (status_same false one other h))
       (ap (λ (offer : Offer). Some (offer ∷ [])) e) h.clock (omega (arith, h.clock)) h.losing
 
+  kept_steps : (one other : State) (now : Option (List Offer)) (offer second : Offer) (found other_found : Found)
+      → Base gap one other → second ≡ gap.offer offer → IsLikeFound gap found other_found
+      → Steps gap one other (after size (record one { now = now }) (Kept offer found))
+      (after size (record other { now = renamed gap now }) (Kept second other_found))
+  kept_steps one other now offer second NotAsked NotAsked h e k =
+      stays_by one other _ _ h refl refl
+      (ap (λ (offer : Offer). with_offer offer (renamed gap now)) e ∙ with_other offer now) h.clock h.deadline h.losing
+  kept_steps one other now offer second Free Free h e k = new_steps one other now offer second h e
+  kept_steps one other now offer second (Held number) (Held other_number) h e k = new_steps one other now offer second h e
+  kept_steps one other now offer second found other_found h e k = absurd k
+
   note_steps : (one other : State) (now : Option (List Offer)) (note second : Note) → Base gap one other
       → IsLikeNote gap note second
       → Steps gap one other (after size (record one { now = now }) note)
       (after size (record other { now = renamed gap now }) second)
-  note_steps one other now (Kept offer NotAsked) (Kept second NotAsked) h k =
-      stays_by one other _ _ h refl refl
-      (ap (λ (offer : Offer). with_offer offer (renamed gap now)) k.0 ∙ with_other offer now) h.clock h.deadline
-      h.losing
-  note_steps one other now (Kept offer Free) (Kept second Free) h k = new_steps one other now offer second h k.0
-  note_steps one other now (Kept offer (Held number)) (Kept second (Held other_number)) h k =
-      new_steps one other now offer second h k.0
-  note_steps one other now (Kept offer NotAsked) (Kept second Free) h k = absurd k.1
-  note_steps one other now (Kept offer NotAsked) (Kept second (Held number)) h k = absurd k.1
-  note_steps one other now (Kept offer Free) (Kept second NotAsked) h k = absurd k.1
-  note_steps one other now (Kept offer Free) (Kept second (Held number)) h k = absurd k.1
-  note_steps one other now (Kept offer (Held number)) (Kept second NotAsked) h k = absurd k.1
-  note_steps one other now (Kept offer (Held number)) (Kept second Free) h k = absurd k.1
+  note_steps one other now (Kept offer found) (Kept second other_found) h k =
+      kept_steps one other now offer second found other_found h k.0 k.1
   note_steps one other now (Refused cpu index need number) (Refused second_cpu second second_need other_number) h k =
       stays_by one other _ _ h refl refl refl h.clock h.deadline h.losing
   note_steps one other now (Dropped cpu index need number) (Dropped second_cpu second second_need other_number) h k =

@@ -1,13 +1,13 @@
 -- The statistics of two rings that go on alike.
-use Rattle.std.proofs.Common.{◌≡◌, ℕ, ◌+◌, Bool, true, false, cond, List, [], ◌∷◌, Option, None, Some}
+use Rattle.std.proofs.Common.{◌≡◌, ℕ, ◌+◌, Bool, true, false, cond, List, [], ◌∷◌, Option}
 use Rattle.std.proofs.Common.{refl, sym, ap, subst, ◌∙◌, arith}
 use Rattle.std.specs.Prelude.{nat_lt}
+use Rattle.std.proofs.lemmas.Grind.{common_steps}
 use Rattle.ring_laws.specs.Alike.{AreLikeNotes, AreLikeStats, AreMoments, Gap, IsLikeFound, IsLikeState, KeepsSnaps, renamed}
 use Rattle.ring_model.specs.Fates.{stats_of, stretches_from}
 use Rattle.ring_model.specs.Ledgers.{plus}
 use Rattle.ring_model.specs.Ring.{Size, State, after, after_drop, after_due}
 use Rattle.ring_model.specs.declared.notes.Found.{Found}
-use Rattle.ring_model.specs.declared.notes.Found.TheVariants.{NotAsked, Free, Held}
 use Rattle.ring_model.specs.declared.notes.Note.{Note}
 use Rattle.ring_model.specs.declared.notes.Note.TheVariants.{Kept, Refused, Dropped, Ticked, Counted, Finished}
 use Rattle.ring_model.specs.declared.notes.Offer.{Offer}
@@ -27,32 +27,15 @@ pub record Offset (before other_before : Stats) (one other : State) : Type 0 whe
   pub drops : one.dropped + other_before.drops ≡ other.dropped + before.drops
   pub freezes : one.freezes + other_before.freezes ≡ other.freezes + before.freezes
 
-none_even : (one other : State) → Even one other one other
-none_even one other = record { kept = omega arith; dropped = omega arith; freezes = omega arith }
-
 drop_even : (gap : Gap) (one other : State) (now : Option (List Offer))
     → Even one other (after_drop one now) (after_drop other (renamed gap now))
-drop_even gap one other None = record { kept = omega arith; dropped = omega arith; freezes = omega arith }
-drop_even gap one other (Some offers) = record { kept = omega arith; dropped = omega arith; freezes = omega arith }
+drop_even gap one other now =
+    record { kept = grind (arith, common_steps); dropped = grind (arith, common_steps); freezes = grind (arith, common_steps) }
 
 due_even : (gap : Gap) (one other : State) (now : Option (List Offer)) (found second : Found) → IsLikeFound gap found second
     → Even one other (after_due one now found) (after_due other (renamed gap now) second)
-due_even gap one other (Some []) found second k = none_even one other
-due_even gap one other None Free Free k = record { kept = omega arith; dropped = omega arith; freezes = omega arith }
-due_even gap one other None NotAsked NotAsked k = none_even one other
-due_even gap one other None (Held number) (Held other_number) k = none_even one other
-due_even gap one other (Some (offer ∷ offers)) Free Free k =
-    record { kept = omega arith; dropped = omega arith; freezes = omega arith }
-due_even gap one other (Some (offer ∷ offers)) NotAsked NotAsked k =
-    record { kept = omega arith; dropped = omega arith; freezes = omega arith }
-due_even gap one other (Some (offer ∷ offers)) (Held number) (Held other_number) k =
-    record { kept = omega arith; dropped = omega arith; freezes = omega arith }
-due_even gap one other now NotAsked Free k = absurd k
-due_even gap one other now NotAsked (Held number) k = absurd k
-due_even gap one other now Free NotAsked k = absurd k
-due_even gap one other now Free (Held number) k = absurd k
-due_even gap one other now (Held number) NotAsked k = absurd k
-due_even gap one other now (Held number) Free k = absurd k
+due_even gap one other now found second k =
+    record { kept = grind (arith, common_steps); dropped = grind (arith, common_steps); freezes = grind (arith, common_steps) }
 
 tick_even : (one other due other_due : State) (ms other_ms deadline other_deadline : ℕ) (early : Bool)
     → Even one other due other_due
@@ -65,23 +48,8 @@ tick_even one other due other_due ms other_ms deadline other_deadline false h =
 
 kept_even : (size : Size) (one other : State) (offer second : Offer) (found other_found : Found)
     → Even one other (after size one (Kept offer found)) (after size other (Kept second other_found))
-kept_even size one other offer second NotAsked NotAsked =
-    record { kept = omega arith; dropped = omega arith; freezes = omega arith }
-kept_even size one other offer second NotAsked Free =
-    record { kept = omega arith; dropped = omega arith; freezes = omega arith }
-kept_even size one other offer second NotAsked (Held number) =
-    record { kept = omega arith; dropped = omega arith; freezes = omega arith }
-kept_even size one other offer second Free NotAsked =
-    record { kept = omega arith; dropped = omega arith; freezes = omega arith }
-kept_even size one other offer second Free Free = record { kept = omega arith; dropped = omega arith; freezes = omega arith }
-kept_even size one other offer second Free (Held number) =
-    record { kept = omega arith; dropped = omega arith; freezes = omega arith }
-kept_even size one other offer second (Held number) NotAsked =
-    record { kept = omega arith; dropped = omega arith; freezes = omega arith }
-kept_even size one other offer second (Held number) Free =
-    record { kept = omega arith; dropped = omega arith; freezes = omega arith }
-kept_even size one other offer second (Held number) (Held other_number) =
-    record { kept = omega arith; dropped = omega arith; freezes = omega arith }
+kept_even size one other offer second found other_found =
+    record { kept = grind (arith, common_steps); dropped = grind (arith, common_steps); freezes = grind (arith, common_steps) }
 
 -- nothing is counted before
 abbrev no_stats : Stats

@@ -5,6 +5,7 @@ use Rattle.std.specs.Prelude.{nat_lt, sum_by}
 use Rattle.std.proofs.lemmas.Bool.{lt-ltb, ltb-true}
 use Rattle.std.proofs.lemmas.List.Elements.{All-cons, All-head, All-nil, All-tail}
 use Rattle.std.proofs.lemmas.List.Sums.{sum_by-cons}
+use Rattle.std.proofs.lemmas.Grind.{common_steps}
 use Rattle.ring_model.specs.Fates.{stats_of, stretches_from}
 use Rattle.ring_events.specs.Happenings.{IsNeverHeld}
 use Rattle.ring_laws.specs.Freezes.{IsNoRefusal}
@@ -34,27 +35,17 @@ IsOpenNow (Some offers) = Unit {0}
 -- ---- freezes are never taken back
 
 drop_more : (s : State) (now : Option (List Offer)) → s.freezes ≤ (after_drop s now).freezes
-drop_more s None = omega arith
-drop_more s (Some offers) = omega arith
+drop_more s now = grind (arith, common_steps)
 
 due_more : (s : State) (now : Option (List Offer)) (found : Found) → s.freezes ≤ (after_due s now found).freezes
-due_more s (Some []) found = omega arith
-due_more s None NotAsked = omega arith
-due_more s None Free = omega arith
-due_more s None (Held number) = omega arith
-due_more s (Some (offer ∷ offers)) NotAsked = omega arith
-due_more s (Some (offer ∷ offers)) Free = omega arith
-due_more s (Some (offer ∷ offers)) (Held number) = omega arith
+due_more s now found = grind (arith, common_steps)
 
 tick_more : (early : Bool) (s due : State) (ms deadline : ℕ) → s.freezes ≤ due.freezes
     → s.freezes ≤ (cond early (record s { clock = ms }) (record due { clock = ms; deadline = deadline })).freezes
-tick_more true s due ms deadline h = omega arith
-tick_more false s due ms deadline h = h
+tick_more early s due ms deadline h = grind (arith, common_steps)
 
 kept_more : (size : Size) (s : State) (offer : Offer) (found : Found) → s.freezes ≤ (after size s (Kept offer found)).freezes
-kept_more size s offer NotAsked = omega arith
-kept_more size s offer Free = omega arith
-kept_more size s offer (Held number) = omega arith
+kept_more size s offer found = grind (arith, common_steps)
 
 at_least : (size : Size) (s : State) (notes : List Note) → s.freezes ≤ freezes_from size s notes
 at_least size s [] = omega (arith, sum_by-cons freezes_in (stats_of s) [])
@@ -73,14 +64,11 @@ at_least size s (Finished ∷ notes) = at_least size (after size s Finished) not
 -- ---- an open ring freezes where it finds a block held
 
 drop_freezes : (s : State) (now : Option (List Offer)) → IsOpenNow now → 0 < (after_drop s now).freezes
-drop_freezes s None opens = absurd opens
-drop_freezes s (Some offers) opens = omega arith
+drop_freezes s now opens = grind (arith, common_steps)
 
 due_freezes : (s : State) (now : Option (List Offer)) (number : ℕ) → IsOpenNow now → now ≢ Some []
     → 0 < (after_due s now (Held number)).freezes
-due_freezes s None number opens some = absurd opens
-due_freezes s (Some []) number opens some = absurd (some refl)
-due_freezes s (Some (offer ∷ offers)) number opens some = omega arith
+due_freezes s now number opens some = grind (arith, common_steps)
 
 late : (ms deadline : ℕ) (early : Bool) → nat_lt ms deadline ≡ early → deadline ≤ ms → early ≡ false
 late ms deadline true e h = absurd (omega (arith, h, ltb-true ms deadline e))
@@ -96,14 +84,11 @@ held_freezes size s ms number opens due some =
 -- ---- and stays open elsewhere
 
 with_open : (offer : Offer) (now : Option (List Offer)) → IsOpenNow now → IsOpenNow (with_offer offer now)
-with_open offer None opens = absurd opens
-with_open offer (Some offers) opens = tt
+with_open offer now opens = grind (arith, common_steps)
 
 kept_open : (size : Size) (s : State) (offer : Offer) (found : Found) → IsOpenNow s.now
     → IsOpenNow (after size s (Kept offer found)).now
-kept_open size s offer NotAsked opens = with_open offer s.now opens
-kept_open size s offer Free opens = tt
-kept_open size s offer (Held number) opens = tt
+kept_open size s offer found opens = grind (arith, common_steps)
 
 free_open : (s : State) (now : Option (List Offer)) → s.now ≡ now → IsOpenNow now → IsOpenNow (after_due s now Free).now
 free_open s None e opens = tt
@@ -112,8 +97,7 @@ free_open s (Some (offer ∷ offers)) e opens = tt
 
 tick_open : (early : Bool) (s due : State) (ms deadline : ℕ) → IsOpenNow s.now → IsOpenNow due.now
     → IsOpenNow (cond early (record s { clock = ms }) (record due { clock = ms; deadline = deadline })).now
-tick_open true s due ms deadline opens later = opens
-tick_open false s due ms deadline opens later = later
+tick_open early s due ms deadline opens later = grind (arith, common_steps)
 
 asked_not : (size : Size) (s : State) (ms : ℕ) → IsOpenNow s.now → ((ms < s.deadline) ⊎ (IsDue s ms × (s.now ≡ Some [])))
     → IsOpenNow (after size s (Ticked ms NotAsked)).now
