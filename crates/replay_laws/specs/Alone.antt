@@ -61,10 +61,11 @@ dealt_next rules room cpu (None ∷ waiting) deal =
 dealt_next rules room cpu (Some frame ∷ waiting) deal =
     dealt_frame rules room frame (record deal { waiting = slice_set deal.waiting cpu waiting })
 
+-- the next frame of a CPU
 abbrev pub dealt_feed : Rules → ℕ → ℕ → Deal → Deal
 dealt_feed rules room cpu deal = dealt_next rules room cpu (slice_index_or deal.waiting cpu []) deal
 
--- one line of the schedule, and the lines in order
+-- one line of the schedule
 abbrev pub dealt_line : Rules → ℕ → Line → Deal → Deal
 dealt_line rules room (lines.Feed cpu) deal = dealt_feed rules room cpu deal
 dealt_line rules room (lines.Read member) deal =
@@ -74,17 +75,19 @@ dealt_line rules room (lines.Tick ms) deal =
 dealt_line rules room (lines.Stats member) deal =
     record deal { given = given_at member Count deal.given }
 
+-- the lines in order
 abbrev pub dealt_lines : Rules → ℕ → List Line → Deal → Deal
 dealt_lines rules room [] deal = deal
 dealt_lines rules room (line ∷ lines) deal =
     dealt_lines rules room lines (dealt_line rules room line deal)
 
--- the next frames of a CPU, and all frames of the next CPUs
+-- the next frames of a CPU, `times` of them
 abbrev pub dealt_times : Rules → ℕ → ℕ → ℕ → Deal → Deal
 dealt_times rules room cpu zero deal = deal
 dealt_times rules room cpu (suc times) deal =
     dealt_times rules room cpu times (dealt_feed rules room cpu deal)
 
+-- all frames of the next CPUs from one on, `left` of them
 abbrev pub dealt_rest : Rules → ℕ → ℕ → ℕ → Deal → Deal
 dealt_rest rules room cpu zero deal = deal
 dealt_rest rules room cpu (suc left) deal =

@@ -28,17 +28,20 @@ pub record Gap : Type 0 where
 abbrev pub KeepsSnaps : Gap → Type 0
 KeepsSnaps gap = (offer : Offer) → (gap.offer offer).snap ≡ offer.snap
 
--- packets, and a retired block, under the other names
+-- packets under the other names
 abbrev pub renamed : Gap → Option (List Offer) → Option (List Offer)
 renamed gap None = None
 renamed gap (Some offers) = Some (map gap.offer offers)
 
+-- a retired block under them
 abbrev pub renamed_block : Gap → List Offer × ℕ → List Offer × ℕ
 renamed_block gap block = (map gap.offer block.0, block.1)
 
+-- two numbers of blocks with the gap between them
 abbrev pub AreBlocks : Gap → ℕ → ℕ → Type 0
 AreBlocks gap number other = number + gap.blocks ≡ other + gap.other_blocks
 
+-- two moments in milliseconds with the gap between them
 abbrev pub AreMoments : Gap → ℕ → ℕ → Type 0
 AreMoments gap ms other = ms + gap.ms ≡ other + gap.other_ms
 
@@ -57,7 +60,7 @@ pub record AreOfOneOffer (gap : Gap) (cpu index other_cpu other_index : ℕ) : T
   pub other_cpu_is : (gap.offer offer).frame.cpu ≡ other_cpu
   pub other_index_is : (gap.offer offer).frame.index ≡ other_index
 
--- the same notes, but for names, numbers of blocks and moments
+-- the same note, but for names, numbers of blocks and moments
 abbrev pub IsLikeNote : Gap → Note → Note → Type 0
 IsLikeNote gap (Kept offer found) (Kept second other) =
     (second ≡ gap.offer offer) × IsLikeFound gap found other
@@ -71,13 +74,14 @@ IsLikeNote gap Counted Counted = Unit {0}
 IsLikeNote gap Finished Finished = Unit {0}
 IsLikeNote gap note other = ⊥
 
+-- note for note the same
 abbrev pub AreLikeNotes : Gap → List Note → List Note → Type 0
 AreLikeNotes gap [] [] = Unit {0}
 AreLikeNotes gap (note ∷ notes) (other ∷ others) =
     IsLikeNote gap note other × AreLikeNotes gap notes others
 AreLikeNotes gap notes others = ⊥
 
--- the same happens, but for names and moments
+-- the same happening, but for names and moments
 abbrev pub IsLikeHappening : Gap → Happening → Happening → Type 0
 IsLikeHappening gap (Put offer) (Put other) = other ≡ gap.offer offer
 IsLikeHappening gap (Try offer) (Try other) = other ≡ gap.offer offer
@@ -87,6 +91,7 @@ IsLikeHappening gap ReadAll ReadAll = Unit {0}
 IsLikeHappening gap Count Count = Unit {0}
 IsLikeHappening gap happening other = ⊥
 
+-- happening for happening the same
 abbrev pub AreLikeHappenings : Gap → List Happening → List Happening → Type 0
 AreLikeHappenings gap [] [] = Unit {0}
 AreLikeHappenings gap (happening ∷ happenings) (other ∷ others) =

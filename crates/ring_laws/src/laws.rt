@@ -35,12 +35,12 @@ pub fn a_ring_of_a_run_is_within_its_bounds()
 /// a tick. To that of a frozen one: by a packet and a due tick for each block, one packet more if
 /// some were lost, a read for each block that isn't with the reader, and a tick.
 pub fn a_new_ring_is_brought_to_the_state_of_any_ring()
-    ensures open { (size : Size) (happenings : List Happening) (offer : Offer)
+    ensures open_ring { (size : Size) (happenings : List Happening) (offer : Offer)
         (offers : List Offer)
         → IsCourse size happenings → need_of offer.snap ≤ size.room
         → let ring = all_happened happenings (fresh size) in
         (state ring).now ≡ Some offers → IsLike ring (beginning offer offers ring) }
-    ensures frozen { (size : Size) (happenings : List Happening) (offer : Offer)
+    ensures frozen_ring { (size : Size) (happenings : List Happening) (offer : Offer)
         → IsCourse size happenings → need_of offer.snap ≤ size.room
         → let ring = all_happened happenings (fresh size) in
         (state ring).now ≡ None → IsLike ring (frozen_beginning offer ring) }

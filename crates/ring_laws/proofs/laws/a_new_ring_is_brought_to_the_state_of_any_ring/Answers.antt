@@ -7,8 +7,8 @@ use Rattle.ring_laws.proofs.laws.a_new_ring_is_brought_to_the_state_of_any_ring.
 use Rattle.ring_model.specs.Ring.{Size}
 use Rattle.ring_model.specs.Rings.{fresh}
 
-pub returns-clause-open : goal.returns-clause-open
-returns-clause-open c size happenings offer offers course fits now =
+pub returns-clause-open_ring : goal.returns-clause-open_ring
+returns-clause-open_ring c size happenings offer offers course fits now =
     let same = all_size happenings (fresh size) in
     let room = ap (λ (z : Size). z.room) same in
     let blocks = ap (λ (z : Size). z.blocks) same in
@@ -16,8 +16,8 @@ returns-clause-open c size happenings offer offers course fits now =
     (omega (arith, course.blocks, blocks))
     (bounds size happenings course) now
 
-pub returns-clause-frozen : goal.returns-clause-frozen
-returns-clause-frozen c size happenings offer course fits now =
+pub returns-clause-frozen_ring : goal.returns-clause-frozen_ring
+returns-clause-frozen_ring c size happenings offer course fits now =
     let same = all_size happenings (fresh size) in
     let room = ap (λ (z : Size). z.room) same in
     let blocks = ap (λ (z : Size). z.blocks) same in
