@@ -16,6 +16,7 @@ use Rattle.ring_words.specs.Rings.{Entry}
 use Rattle.run_reports.specs.Blocks.{read_of, taken_from}
 use Rattle.run_reports.specs.Members.{IsMember, dump_where}
 use Rattle.run_reports.specs.Reports.{notes_of}
+use Rattle.run_reports.specs.RingRules.{block_rules}
 use Rattle.run_reports.proofs.KeptPackets.{as_many, kept_in_blocks, texts_are, walked_are}
 use Rattle.run_reports.specs.declared.reports.MemberReport.{MemberReport}
 use Rattle.tp_layout.specs.Blocks.{BeginsWith}
@@ -50,13 +51,13 @@ read_all tells shape number (entry ∷ retired) (block ∷ done) small texts =
 -- ---- one member
 
 dump_is : (shape : RingRequest) (asked : Bool) (notes : List Note)
-    → dump_by asked shape (taken_of_notes shape notes) ≡ dump_where asked shape notes
+    → dump_by asked shape (taken_of_notes shape notes) ≡ dump_where (block_rules shape) asked notes
 unfolding dump_of
 dump_is shape true notes = texts_are shape 1 (state_of (size_of shape) notes).done
 dump_is shape false notes = refl
 
 member_is : (shape : RingRequest) (asked : Bool) (notes : List Note) (ring : Pends ShapedBytes) (member : MemberReport)
-    → IsWholeRun (size_of shape) notes → IsReported shape asked notes ring member → IsMember shape asked member
+    → IsWholeRun (size_of shape) notes → IsReported shape asked notes ring member → IsMember (block_rules shape) asked member
 member_is shape asked notes ring member run is =
     let done = (state_of (size_of shape) notes).done in
     record {
@@ -64,7 +65,7 @@ member_is shape asked notes ring member run is =
       walked = is.walked ∙ walked_are shape 1 done
           ∙ ap (λ (offers : List Offer). map (packet_of (fills_hash shape)) offers) (kept_in_blocks (size_of shape) notes run)
           ∙ ap (λ (ns : List Note). map (packet_of (fills_hash shape)) (kept_of ns)) (sym is.notes_are);
-      dump = is.dump ∙ dump_is shape asked notes ∙ ap (dump_where asked shape) (sym is.notes_are);
+      dump = is.dump ∙ dump_is shape asked notes ∙ ap (dump_where (block_rules shape) asked) (sym is.notes_are);
       blocks = is.blocks ∙ as_many shape 1 done ∙ ap (λ (ns : List Note). length (state_of (size_of shape) ns).done)
           (sym is.notes_are);
     }
@@ -93,8 +94,10 @@ module _ (shape : RingRequest) (asked : Bool) (P : List Note → Type 0) (Q : Me
 
 pub members_are : (shape : RingRequest) (asked : Bool) (all : List (List Note)) (rings : List (Pends ShapedBytes))
     (members : List MemberReport)
-    → All (IsWholeRun (size_of shape)) all → AreReported shape asked all rings members → All (IsMember shape asked) members
-members_are shape asked = each_reported shape asked (IsWholeRun (size_of shape)) (IsMember shape asked) (member_is shape asked)
+    → All (IsWholeRun (size_of shape)) all → AreReported shape asked all rings members
+    → All (IsMember (block_rules shape) asked) members
+members_are shape asked = each_reported shape asked (IsWholeRun (size_of shape)) (IsMember (block_rules shape) asked)
+    (member_is shape asked)
 
 pub ticked_are : (shape : RingRequest) (asked : Bool) (moments : List ℕ) (all : List (List Note))
     (rings : List (Pends ShapedBytes)) (members : List MemberReport)

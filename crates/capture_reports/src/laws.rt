@@ -11,6 +11,7 @@ ghost use Rattle.ring_model.specs.declared.notes.Note.{Note};
 ghost use Rattle.ring_words.specs.Pendings.{Pends};
 ghost use Rattle.ring_words.specs.Rings.{Entry};
 ghost use Rattle.run_reports.specs.Reports.{IsRunReport};
+ghost use Rattle.run_reports.specs.RingRules.{block_rules};
 ghost use Rattle.setup_text.specs.declared.jobs.Job.{Job};
 ghost use Rattle.run_reports.specs.declared.reports.RunReport.{RunReport};
 ghost use Rattle.tap_outside.specs.Seen.{SourceSeen};
@@ -67,7 +68,7 @@ pub fn threads_report_a_run()
         (notes : List (List Note)) (rings : List (Pends ShapedBytes)) (report : RunReport)
         → IsGroupRun job moments bytes ends report.cpus notes rings
         → AreReported job.setup.shape job.setup.dump notes rings report.members
-        → IsRunReport job bytes ends report }
+        → IsRunReport (block_rules job.setup.shape) job bytes ends report }
 {
     a_group_s_report_is_that_of_a_run();
 }

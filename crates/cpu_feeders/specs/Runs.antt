@@ -9,6 +9,7 @@ use Rattle.tp_layout.specs.Layouts.{Taken}
 use Rattle.ring_model.specs.declared.notes.Note.{Note}
 use Rattle.ring_words.specs.Pendings.{Pends}
 use Rattle.run_reports.specs.Reports.{IsRunReport}
+use Rattle.run_reports.specs.RingRules.{block_rules}
 use Rattle.setup_text.specs.declared.jobs.Job.{Job}
 use Rattle.run_reports.specs.declared.reports.RunReport.{RunReport}
 use Rattle.tap_outside.specs.Seen.{SourceSeen}
@@ -52,5 +53,5 @@ pub record IsCaptureRun (job : Job) (moments : List ℕ) (old new : List (Option
   pub bytes : List (List ℕ)
   pub ends : List CpuEnd
   pub gave : AllGave old new bytes ends
-  pub run : IsRunReport job bytes ends report
+  pub run : IsRunReport (block_rules job.setup.shape) job bytes ends report
   pub captured : IsCaptured job.setup.shape moments report

@@ -5,6 +5,7 @@ ghost use Rattle.capture_file.specs.declared.cpu_end.CpuEnd.{CpuEnd};
 ghost use Rattle.capture_reports.specs.Reported.{IsCaptured, IsGroupRun};
 ghost use Rattle.cpu_feeders.specs.Reports.{AreOutputsOf, member_reports, report_of};
 ghost use Rattle.run_reports.specs.Reports.{IsRunReport};
+ghost use Rattle.run_reports.specs.RingRules.{block_rules};
 ghost use Rattle.setup_text.specs.declared.jobs.Job.{Job};
 
 use crate::list_ends::first_of;
@@ -67,7 +68,8 @@ pub fn report_run(
         (job : Job) (moments : List ℕ) (bytes : List (List ℕ)) (ends : List CpuEnd)
         → IsGroupRun job moments bytes ends cpus notes.items rings.items
         → AllZip (AreOutputsOf job.setup.shape job.setup.dump) notes.items outputs.items
-        → IsRunReport job bytes ends report × IsCaptured job.setup.shape moments report) }
+        → IsRunReport (block_rules job.setup.shape) job bytes ends report
+        × IsCaptured job.setup.shape moments report) }
 {
     threads_report_a_run();
     threads_report_a_capture();

@@ -12,7 +12,7 @@ use Rattle.receive_ring.proofs.WaitingBlocks.{some_same, waits_for}
 use Rattle.receive_ring.specs.BlockRings.{block_reads, seen_blocks, steps_of_blocks}
 use Rattle.receive_ring.specs.Rings as receiving
 use Rattle.receive_ring.specs.Rings.{Becomes, Closes, Waits, note_of_put, note_of_try, ring_in}
-use Rattle.receive_ring.specs.RingSteps.{found_in, ticked}
+use Rattle.run_reports.specs.RingSteps.{found_in, ticked}
 use Rattle.ring_model.specs.Ring.{state_of}
 use Rattle.ring_model.specs.Rings.{Ring, noted}
 use Rattle.ring_model.specs.KnownReleases.{put_by, try_by}

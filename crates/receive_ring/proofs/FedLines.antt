@@ -12,7 +12,7 @@ use Rattle.fanout_group.specs.Joined.{Rises, tickets_of}
 use Rattle.fanout_group.specs.Rules.{Rules}
 use Rattle.fanout_group.specs.declared.logs.ArrivalLog.{ArrivalLog}
 use Rattle.receive_ring.specs.Replay.{Cpu, Replay, cpu_at, done_lines, fed_by, feed, feed_from, feed_times, no_cpu, no_ring}
-use Rattle.receive_ring.specs.RingSteps.{RingSteps}
+use Rattle.run_reports.specs.RingSteps.{RingSteps}
 use Rattle.setup_text.specs.TickOrder.{AreAscending}
 use Rattle.setup_text.specs.declared.lines.Line.{Line}
 use Rattle.setup_text.specs.declared.lines.Line.TheVariants.{Feed, Read, Tick, Stats}

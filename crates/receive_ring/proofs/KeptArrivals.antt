@@ -18,7 +18,7 @@ use Rattle.fanout_group.specs.declared.modes.Mode.TheVariants.{Hash, Lb, Cpu as 
 use Rattle.fanout_group.proofs.Members.{one_if}
 use Rattle.fanout_group.proofs.RouteBounds.{home_is_member, present_is_member}
 use Rattle.receive_ring.specs.Replay.{Cpu, Replay, Tried, arrived, cpu_at, next_ticket, no_cpu, no_ring, ticket_of, tries_of}
-use Rattle.receive_ring.specs.RingSteps.{RingSteps}
+use Rattle.run_reports.specs.RingSteps.{RingSteps}
 use Rattle.receive_ring.proofs.KeptOpen.{KeepOpen}
 use Rattle.receive_ring.proofs.LogTickets.{once_more, one_more, rises_from, tickets_more, total_more}
 use Rattle.receive_ring.proofs.ReplayStates.{Waiting, Goes, Joins, Logs, Tickets, silent_joins}

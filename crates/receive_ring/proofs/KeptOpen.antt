@@ -4,7 +4,7 @@ use Rattle.std.specs.Prelude.{nat_lt}
 use Rattle.ring_model.specs.Rings.{Ring, fresh, noted}
 use Rattle.ring_model.specs.declared.notes.Note.TheVariants.{Counted}
 use Rattle.ring_model.specs.declared.notes.Offer.{Offer}
-use Rattle.receive_ring.specs.RingSteps.{RingSteps, put_note, read_by, ticked, try_note}
+use Rattle.run_reports.specs.RingSteps.{RingSteps, put_note, read_by, ticked, try_note}
 
 -- what is preserved is about a ring whose clock isn't past a moment
 pub record KeepOpen (steps : RingSteps) (P : ℕ → Ring → Type 0) : Type 0 where

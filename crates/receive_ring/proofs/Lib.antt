@@ -9,6 +9,8 @@ pub mod LogTickets
 pub mod KeptArrivals
 pub mod FedLines
 pub mod ReplayEnds
+pub mod OpenSlots
+mod KindReports
 mod WaitingBlocks
 mod BlockCalls
 mod SlotCalls

@@ -18,7 +18,7 @@ use Rattle.fanout_group.specs.declared.logs.ArrivalLog.{ArrivalLog}
 use Rattle.fanout_group.proofs.Members.{one_if}
 use Rattle.receive_ring.specs.Replay.{Cpu, Replay, closed, cpu_at, feed_from, done_lines, no_cpu, no_ring, replayed, started}
 use Rattle.receive_ring.specs.Reports.{AreArrivals, IsReplayReport, logged_of, notes_of}
-use Rattle.receive_ring.specs.RingSteps.{RingSteps}
+use Rattle.run_reports.specs.RingSteps.{RingSteps}
 use Rattle.setup_text.specs.TickOrder.{IsSchedule}
 use Rattle.setup_text.specs.declared.lines.Line.{Line}
 use Rattle.receive_ring.proofs.FedLines.{all_fed, lines_go}

@@ -19,7 +19,7 @@ use Rattle.fanout_group.specs.declared.modes.Mode.TheVariants.{Lb}
 use Rattle.fanout_group.proofs.Members.{one_if}
 use Rattle.receive_ring.specs.Replay.{Cpu, Replay, cpu_at, no_ring, noted_at}
 use Rattle.receive_ring.proofs.Places.{set_within}
-use Rattle.receive_ring.specs.RingSteps.{RingSteps, read_by, ticked, ticked_by}
+use Rattle.run_reports.specs.RingSteps.{RingSteps, read_by, ticked, ticked_by}
 use Rattle.receive_ring.proofs.KeptOpen.{KeepOpen, read_notes}
 use Rattle.receive_ring.proofs.AddedNotes.{frame_notes-append}
 

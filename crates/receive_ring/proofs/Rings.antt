@@ -14,7 +14,9 @@ use Rattle.ring_model.specs.declared.notes.Note.TheVariants.{Ticked, Counted, Fi
 use Rattle.ring_model.specs.Unreleased.{IsUnreleased}
 use Rattle.ring_model.proofs.Unreleased.{put_unreleased, tick_unreleased, try_unreleased}
 use Rattle.receive_ring.specs.Reports.{AreReleases, IsRingReport}
-use Rattle.receive_ring.specs.RingSteps.{block_steps}
+use Rattle.run_reports.specs.RingRules.{IsWholeBy}
+use Rattle.run_reports.specs.RingSteps.{block_steps}
+use Rattle.run_reports.specs.declared.ring_kind.RingKind.TheVariants.{Blocks}
 use Rattle.receive_ring.proofs.KeptOpen.{KeepOpen}
 use Rattle.receive_ring.proofs.Noted.{state-noted}
 
@@ -149,7 +151,7 @@ pub read_open : (size : Size) (clock : ℕ) (ring : Ring) → IsOpen size clock 
 read_open size clock ring h = released_open size clock ring (nat_lt ring.released (length (state ring).done)) h
 
 -- the last note closes it
-pub closed_run : (size : Size) (clock : ℕ) (ring : Ring) → IsOpen size clock ring → IsRingReport size (noted ring Finished)
+pub closed_run : (size : Size) (clock : ℕ) (ring : Ring) → IsOpen size clock ring → IsRingReport size (IsWholeBy Blocks size) (noted ring Finished)
 closed_run size clock ring h = record {
   size_is = h.size_is;
   run = record {

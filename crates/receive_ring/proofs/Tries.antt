@@ -15,7 +15,7 @@ use Rattle.fanout_group.specs.declared.logs.Try.{Try}
 use Rattle.receive_ring.specs.Replay.{Tried, and_then, fate_of, no_ring, noted_at, or_put_at, put_at, tries_of, try_round}
 use Rattle.receive_ring.proofs.AddedNotes.{Arrival, LeavesOpen, Spread, offered, put_tells, spread_none, spread_one}
 use Rattle.receive_ring.proofs.AddedNotes.{spread_then, try_tells}
-use Rattle.receive_ring.specs.RingSteps.{RingSteps, put_note, try_note}
+use Rattle.run_reports.specs.RingSteps.{RingSteps, put_note, try_note}
 use Rattle.receive_ring.proofs.KeptOpen.{KeepOpen}
 
 -- some members refuse from one on, and the next one keeps the packet

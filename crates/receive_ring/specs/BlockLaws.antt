@@ -1,10 +1,13 @@
 -- What the notes of a ring of blocks hand over.
-use Rattle.std.proofs.Common.{◌≡◌, ℕ, ◌+◌, ◌≤◌, List, [], ◌∷◌, ◌++◌, length, sym, ap, ◌∙◌}
+use Rattle.std.proofs.Common.{◌≡◌, ℕ, ◌+◌, ◌≤◌, List, [], ◌∷◌, ◌++◌, length, map, sym, ap, ◌∙◌}
 use Rattle.std.proofs.Common.{arith}
 use Rattle.block_ring.specs.Producers.{Producing}
 use Rattle.block_ring.specs.WalkerSteps.{StaysBy, TookBy}
+use Rattle.reader_walk.specs.Readers.{texts_of}
 use Rattle.receive_ring.specs.BlockRings.{block_reads, seen_blocks}
+use Rattle.receive_ring.specs.ReadBack.{IsReadBack}
 use Rattle.receive_ring.specs.Rings.{Grows, StaysThere, TookOne}
+use Rattle.ring_model.specs.Offers.{packet_of}
 use Rattle.ring_model.specs.Ring.{Size, state_of}
 use Rattle.ring_model.specs.Rings.{Ring}
 use Rattle.ring_model.specs.declared.notes.Note.{Note}
@@ -13,9 +16,12 @@ use Rattle.ring_words.specs.PlainRings as plain
 use Rattle.ring_words.specs.PlainRings.{PlainState, Took}
 use Rattle.run_reports.specs.Blocks.{read_of, taken_from}
 use Rattle.run_reports.proofs.GrownBlocks.{few_done, grows_noted}
-use Rattle.run_reports.proofs.KeptPackets.{as_many}
-use Rattle.tp_layout.specs.Layouts.{Taken}
-use Rattle.tp_layout.specs.Requests.{size_of}
+use Rattle.run_reports.proofs.KeptPackets.{as_many, kept_in_blocks, texts_are, walked_are}
+use Rattle.run_reports.specs.RingRules.{IsWholeBy, block_rules}
+use Rattle.run_reports.specs.declared.ring_kind.RingKind.TheVariants.{Blocks}
+use Rattle.tp_layout.specs.Dump.{dump_of}
+use Rattle.tp_layout.specs.Layouts.{Taken, text_of_taken}
+use Rattle.tp_layout.specs.Requests.{fills_hash, size_of}
 use Rattle.tp_layout.specs.declared.requests.RingRequest.{RingRequest}
 
 pub took_block : (before after : Producing PlainState) (content : List ℕ)
@@ -63,3 +69,22 @@ pub all_blocks : (shape : RingRequest) (ring : Ring) → ring.size ≡ size_of s
 all_blocks shape ring same =
     ap (λ (size : Size). length (state_of size ring.notes).done) same
     ∙ sym (as_many shape 1 (state_of (size_of shape) ring.notes).done)
+
+dump_is : (shape : RingRequest) (notes : List Note)
+    → texts_of shape (block_reads shape notes) ≡ dump_of shape notes
+unfolding dump_of
+dump_is shape notes = texts_are shape 1 (state_of (size_of shape) notes).done
+
+pub blocks_read_back : (shape : RingRequest) (notes : List Note)
+    → IsWholeBy Blocks (size_of shape) notes
+    → IsReadBack (block_rules shape) (λ of block. text_of_taken of block) shape
+    (block_reads shape notes) notes
+blocks_read_back shape notes run =
+    let done = (state_of (size_of shape) notes).done in
+    record {
+      packets = walked_are shape 1 done
+          ∙ ap (λ (offers : List Offer). map (packet_of (fills_hash shape)) offers)
+          (kept_in_blocks (size_of shape) notes run);
+      bytes = dump_is shape notes;
+      many = as_many shape 1 done;
+    }

@@ -2,7 +2,7 @@
 use Rattle.std.specs.Prelude.{List}
 use Rattle.block_ring.specs.Producers.{Producing}
 use Rattle.receive_ring.specs.Rings.{Receiving}
-use Rattle.receive_ring.specs.RingSteps.{RingSteps, block_steps}
+use Rattle.run_reports.specs.RingSteps.{RingSteps, block_steps}
 use Rattle.ring_model.specs.Ring.{state_of}
 use Rattle.ring_model.specs.declared.notes.Note.{Note}
 use Rattle.ring_words.specs.PlainRings.{PlainState}

@@ -1,8 +1,8 @@
-pub mod RingSteps
 pub mod Replay
 pub mod Reports
 pub mod TakenOffers
 pub mod Rings
+pub mod ReadBack
 pub mod BlockRings
 pub mod BlockLaws
 pub mod SlotRings

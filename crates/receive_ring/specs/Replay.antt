@@ -17,7 +17,7 @@ use Rattle.fanout_group.specs.declared.logs.Fate.TheVariants.{Kept, Refused, Dro
 use Rattle.fanout_group.specs.declared.logs.Try.{Try}
 use Rattle.fanout_group.specs.declared.modes.Mode.{Mode}
 use Rattle.fanout_group.specs.declared.modes.Mode.TheVariants.{Lb}
-use Rattle.receive_ring.specs.RingSteps.{RingSteps, put_note, read_by, ticked, try_note}
+use Rattle.run_reports.specs.RingSteps.{RingSteps, put_note, read_by, ticked, try_note}
 use Rattle.setup_text.specs.declared.lines.Line.{Line}
 use Rattle.setup_text.specs.declared.lines.Line.TheVariants.{Feed, Read, Tick, Stats}
 

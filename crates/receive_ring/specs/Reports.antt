@@ -1,7 +1,7 @@
 -- What a replay report guarantees: it is one of a group, and each ring's notes are a whole run.
 use Rattle.std.specs.Prelude.{◌≡◌, ℕ, ◌≤◌, List, [], ◌∷◌, length, map, slice_index_or, Option, All}
 use Rattle.frame_view.specs.declared.frames.Frame.{Frame}
-use Rattle.ring_model.specs.Ring.{Size, IsWholeRun}
+use Rattle.ring_model.specs.Ring.{Size}
 use Rattle.ring_model.specs.Rings.{Ring}
 use Rattle.ring_model.specs.Unreleased.{IsUnreleased}
 use Rattle.ring_model.specs.declared.notes.Note.{Note}
@@ -10,6 +10,7 @@ use Rattle.fanout_group.specs.Joined.{Logged}
 use Rattle.fanout_group.specs.Once.{AreOf, IsGroupReport}
 use Rattle.fanout_group.specs.Rules.{Rules}
 use Rattle.receive_ring.specs.Replay.{Cpu, Replay}
+use Rattle.run_reports.specs.RingRules.{RingRules}
 
 -- what arrives at each CPU has its number and rising indexes
 abbrev pub AreArrivals : List (List (Option Frame)) → Type 0
@@ -35,12 +36,16 @@ AreReleases low last (count ∷ counts) (note ∷ notes) =
 AreReleases low last counts notes = ⊥
 
 -- a ring of this size whose notes go from its opening to its close
-pub record IsRingReport (size : Size) (ring : Ring) : Type 0 where
+pub record IsRingReport (size : Size) (IsWhole : List Note → Type 0) (ring : Ring) : Type 0 where
   pub size_is : ring.size ≡ size
-  pub run : IsWholeRun size ring.notes
-  -- so a drop found its block unreleased
+  pub run : IsWhole ring.notes
+  -- so a drop found its block or slot unreleased
   pub releases : List ℕ
   pub unreleased : AreReleases 0 ring.released releases ring.notes
+
+-- a ring under these rules does
+abbrev pub IsRingOf : RingRules → Ring → Type 0
+IsRingOf rings ring = IsRingReport rings.steps.size rings.IsWhole ring
 
 -- the report is one of a group of such rings, whose offers are cut for this room
 pub record IsReplayReport (rules : Rules) (room : ℕ) (IsRing : Ring → Type 0)

@@ -1,6 +1,6 @@
 -- A receive ring on one thread, of whatever layout, in plain data.
 use Rattle.std.specs.Prelude.{◌≡◌, ℕ, ◌%◌, ◌<◌, ◌≤◌, List, [], ◌∷◌, ◌++◌, length, drop, map}
-use Rattle.receive_ring.specs.RingSteps.{RingSteps, put_note, try_note}
+use Rattle.run_reports.specs.RingSteps.{RingSteps, put_note, try_note}
 use Rattle.ring_model.specs.Rings.{Ring}
 use Rattle.ring_model.specs.declared.notes.Note.{Note}
 use Rattle.ring_model.specs.declared.notes.Note.TheVariants.{Finished}

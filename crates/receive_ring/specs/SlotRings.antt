@@ -1,16 +1,13 @@
 -- A receive ring of slots (TPACKET_V2).
-use Rattle.std.specs.Prelude.{ℕ, List, length, map, None}
+use Rattle.std.specs.Prelude.{ℕ, List, map}
 use Rattle.receive_ring.specs.Rings.{Receiving}
-use Rattle.receive_ring.specs.RingSteps.{RingSteps}
-use Rattle.ring_model.specs.Ring.{Size}
+use Rattle.run_reports.specs.RingSteps.{RingSteps, slot_steps}
 use Rattle.ring_model.specs.declared.notes.Note.{Note}
 use Rattle.ring_model.specs.declared.notes.Offer.{Offer}
 use Rattle.ring_words.specs.PlainRings.{PlainState}
 use Rattle.slot_layout.specs.SlotDump.{slot_packet_of}
 use Rattle.slot_layout.specs.SlotLayouts.{slot_taken}
 use Rattle.slot_layout.specs.SlotShapes.{slot_size_of}
-use Rattle.slot_layout.specs.SlotReleases.{slot_look}
-use Rattle.slot_layout.specs.SlotRings.{slot_state}
 use Rattle.slot_layout.specs.SlotSteps.{slot_state_of}
 use Rattle.tp_layout.specs.Layouts.{Taken}
 use Rattle.tp_layout.specs.declared.requests.RingRequest.{RingRequest}
@@ -18,15 +15,6 @@ use Rattle.v2_ring.specs.SlotProducers.{SlotProducing}
 
 abbrev pub seen_slots : SlotProducing PlainState → Receiving
 seen_slots ring = record { shape = ring.shape; notes = ring.notes; end = ring.end }
-
--- what rings of slots of this size do: a ring of slots has no timer
-abbrev pub slot_steps : Size → RingSteps
-slot_steps size = record {
-  size = size;
-  finds = λ ring offer. slot_look ring.size.blocks ring.released (slot_state ring);
-  ticks = λ ring ms. None;
-  retired = λ ring. length (slot_state ring).done;
-}
 
 abbrev pub steps_of_slots : RingRequest → RingSteps
 steps_of_slots shape = slot_steps (slot_size_of shape)

@@ -12,14 +12,17 @@ impl ReceiveRing for Producer<PlainRing<Block>> {
     type Unit = Block;
 
     ghost use Rattle.std.specs.Prelude.{refl};
-    ghost use Rattle.receive_ring.specs.BlockLaws.{all_blocks, blocks_grow, few_blocks};
-    ghost use Rattle.receive_ring.specs.BlockLaws.{stays_blocks, took_block};
+    ghost use Rattle.receive_ring.specs.BlockLaws.{all_blocks, blocks_grow, blocks_read_back};
+    ghost use Rattle.receive_ring.specs.BlockLaws.{few_blocks, stays_blocks, took_block};
     ghost use Rattle.receive_ring.specs.BlockRings.{block_reads, seen_blocks, steps_of_blocks};
+    ghost use Rattle.run_reports.specs.declared.ring_kind.RingKind.TheVariants.{Blocks};
     ghost use Rattle.tp_layout.specs.Requests.{IsShape};
 
     ghost seen = { seen_blocks };
 
     ghost may = { IsShape };
+
+    ghost kind = { Blocks };
 
     ghost steps = { steps_of_blocks };
 
@@ -83,6 +86,12 @@ impl ReceiveRing for Producer<PlainRing<Block>> {
     ghost reads_grow = { blocks_grow };
 
     ghost reads_few = { few_blocks };
+
+    ghost serves = { λ shape may. tt };
+
+    ghost steps_are = { λ shape. refl };
+
+    ghost reads_back = { blocks_read_back };
 
     ghost reads_all = { all_blocks };
 }

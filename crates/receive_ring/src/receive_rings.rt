@@ -1,11 +1,14 @@
 //! What a replay asks of the rings of its group, whatever their layout.
 ghost use Rattle.std.specs.Prelude.{◌≡◌, ◌^◌, ◌<◌, ◌≤◌, ℕ, List, [], ◌∷◌, ◌++◌, length, IfErr};
 ghost use Rattle.std.specs.Prelude.{IfOk, OnErr, OnOk};
-ghost use Rattle.receive_ring.specs.RingSteps.{RingSteps, ticked};
+ghost use Rattle.run_reports.specs.RingSteps.{RingSteps, ticked};
 ghost use Rattle.receive_ring.specs.TakenOffers.{Takes};
 ghost use Rattle.receive_ring.specs.Rings.{Becomes, Closes, Grows, IsRoomOf, Opens, Receiving};
 ghost use Rattle.receive_ring.specs.Rings.{StaysThere, TookOne, note_of_put, note_of_try};
 ghost use Rattle.receive_ring.specs.Rings.{ring_in};
+ghost use Rattle.receive_ring.specs.ReadBack.{IsReadBack};
+ghost use Rattle.run_reports.specs.RingRules.{Serves, rules_by};
+ghost use Rattle.run_reports.specs.declared.ring_kind.RingKind.{RingKind};
 ghost use Rattle.ring_model.specs.Rings.{Ring, noted};
 ghost use Rattle.ring_model.specs.Told.{put_told, try_told};
 ghost use Rattle.ring_model.specs.Unreleased.{last_moment};
@@ -32,6 +35,9 @@ pub trait ReceiveRing: WalkerEnd<Self::Unit> + Drop {
 
     // The shapes that such rings may have.
     ghost may: { RingRequest → Type 0 };
+
+    // What such rings are made of.
+    ghost kind: { RingKind };
 
     // What rings of a shape do.
     ghost steps: { RingRequest → RingSteps };
@@ -117,6 +123,16 @@ pub trait ReceiveRing: WalkerEnd<Self::Unit> + Drop {
 
     ghost reads_few: { (shape : RingRequest) (notes : List Note)
         → length (reads shape notes) ≤ length notes };
+
+    // These are the shapes and the steps of its kind.
+    ghost serves: { (shape : RingRequest) → may shape → Serves kind shape };
+
+    ghost steps_are: { (shape : RingRequest) → (rules_by kind shape).steps ≡ steps shape };
+
+    // What a reader reads of all that a ring handed over is what the ring kept.
+    ghost reads_back: { (shape : RingRequest) (notes : List Note)
+        → (rules_by kind shape).IsWhole notes
+        → IsReadBack (rules_by kind shape) Self.Unit.text_of shape (reads shape notes) notes };
 
     // A ring counts what it handed over.
     ghost reads_all: { (shape : RingRequest) (ring : Ring) → ring.size ≡ (steps shape).size

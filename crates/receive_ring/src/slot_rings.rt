@@ -16,14 +16,17 @@ impl ReceiveRing for SlotProducer<PlainRing<Slot>> {
     type Unit = Slot;
 
     ghost use Rattle.std.specs.Prelude.{refl};
-    ghost use Rattle.receive_ring.specs.SlotLaws.{all_slots, few_slots, slots_grow, stays_slots};
-    ghost use Rattle.receive_ring.specs.SlotLaws.{took_slot};
+    ghost use Rattle.receive_ring.specs.SlotLaws.{all_slots, few_slots, slots_grow, slots_read_back};
+    ghost use Rattle.receive_ring.specs.SlotLaws.{stays_slots, took_slot};
     ghost use Rattle.receive_ring.specs.SlotRings.{seen_slots, slot_reads, steps_of_slots};
+    ghost use Rattle.run_reports.specs.declared.ring_kind.RingKind.TheVariants.{Slots};
     ghost use Rattle.slot_layout.specs.SlotShapes.{IsSlotShape};
 
     ghost seen = { seen_slots };
 
     ghost may = { IsSlotShape };
+
+    ghost kind = { Slots };
 
     ghost steps = { steps_of_slots };
 
@@ -77,6 +80,12 @@ impl ReceiveRing for SlotProducer<PlainRing<Slot>> {
     ghost reads_grow = { slots_grow };
 
     ghost reads_few = { few_slots };
+
+    ghost serves = { λ shape may. may };
+
+    ghost steps_are = { λ shape. refl };
+
+    ghost reads_back = { slots_read_back };
 
     ghost reads_all = { all_slots };
 }

@@ -5,7 +5,7 @@ use Rattle.std.proofs.Common.{append_assoc, append-nil, length-append}
 use Rattle.std.specs.Prelude.{map, nat_lt}
 use Rattle.std.proofs.lemmas.Grind.{common_steps}
 use Rattle.std.proofs.lemmas.List.{map-append}
-use Rattle.receive_ring.specs.SlotRings.{slot_steps}
+use Rattle.run_reports.specs.RingSteps.{slot_steps}
 use Rattle.replay_laws.specs.Alone.{all_happened_by, happened_by}
 use Rattle.replay_laws.specs.AlikeSlots.{IsLikeSlotRing, IsLikeSlotState, KeepsTags, SlotsWentOnAlike, renamed_slot}
 use Rattle.ring_events.specs.declared.events.Happening.{Happening}

@@ -15,7 +15,7 @@ use Rattle.ring_events.specs.declared.events.Happening.{Happening}
 use Rattle.receive_ring.specs.Replay.{Cpu, Replay, arrived, cpu_at, done_line, done_lines, fed_by, feed, feed_from}
 use Rattle.receive_ring.specs.Replay.{feed_times, finished_ring, no_cpu, no_ring, or_put_at, put_at, replayed, routed}
 use Rattle.receive_ring.specs.Replay.{started, tries_of, try_round}
-use Rattle.receive_ring.specs.RingSteps.{RingSteps, block_steps, ticked}
+use Rattle.run_reports.specs.RingSteps.{RingSteps, block_steps, ticked}
 use Rattle.ring_events.specs.Happenings.{all_happened}
 use Rattle.ring_model.specs.Offers.{offer_of}
 use Rattle.ring_model.specs.Ring.{Size}

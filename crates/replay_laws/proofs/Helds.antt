@@ -17,7 +17,7 @@ use Rattle.fanout_group.specs.Rules.{Rules, rolls_over}
 use Rattle.receive_ring.specs.Replay.{Replay, Tried, and_then, cpu_at, done_line, done_lines}
 use Rattle.receive_ring.specs.Replay.{fed_by, feed, feed_from, feed_times, finished_ring, no_ring}
 use Rattle.receive_ring.specs.Replay.{noted_at, or_put_at, put_at, routed, tries_of, try_round}
-use Rattle.receive_ring.specs.RingSteps.{RingSteps, put_note, read_by, ticked, ticked_by, try_note}
+use Rattle.run_reports.specs.RingSteps.{RingSteps, put_note, read_by, ticked, ticked_by, try_note}
 use Rattle.setup_text.specs.declared.lines.Line.{Line}
 use Rattle.setup_text.specs.declared.lines.Line.TheVariants.{Feed, Read, Tick, Stats}
 use Rattle.ring_events.specs.Happenings.{IsNeverHeld}

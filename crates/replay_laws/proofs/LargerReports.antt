@@ -9,8 +9,8 @@ use Rattle.fanout_group.specs.Plans.{has_defrag}
 use Rattle.fanout_group.specs.Rules.{Rules}
 use Rattle.frame_view.specs.declared.frames.Frame.{Frame}
 use Rattle.receive_ring.specs.Replay.{replayed}
-use Rattle.receive_ring.specs.RingSteps.{RingSteps, block_steps}
-use Rattle.receive_ring.specs.SlotRings.{slot_steps}
+use Rattle.run_reports.specs.RingSteps.{RingSteps, block_steps}
+use Rattle.run_reports.specs.RingSteps.{slot_steps}
 use Rattle.replay_laws.specs.Larger.{IsLarger}
 use Rattle.replay_laws.specs.LargerJobs.{HasMoreBlocks, HasMoreSlots, IsReshaped, reshaped}
 use Rattle.replay_laws.proofs.AlikeRings.{Alike, AllAlike}
@@ -18,27 +18,24 @@ use Rattle.replay_laws.proofs.Helds.{all_never}
 use Rattle.replay_laws.proofs.LargerRings.{replayed_tracks}
 use Rattle.replay_laws.proofs.LargerTries.{Agree}
 use Rattle.replay_laws.proofs.LargerSteps.{blocks_agree, slots_agree, state_larger}
-use Rattle.replay_machine.specs.Runs.{logs_from, report_with}
+use Rattle.replay_machine.specs.Runs.{logs_from, member_of, report_of, report_with}
 use Rattle.ring_events.specs.Happenings.{IsNeverHeld}
 use Rattle.ring_model.specs.Ring.{State, state_of}
 use Rattle.ring_model.specs.Rings.{Ring, fresh}
 use Rattle.ring_model.specs.declared.notes.Note.{Note}
 use Rattle.ring_model.specs.declared.notes.Offer.{Offer}
 use Rattle.run_reports.specs.Jobs.{captures_from, queue_in}
+use Rattle.run_reports.specs.RingRules.{block_rules, slot_rules}
 use Rattle.run_reports.specs.declared.reports.MemberReport.{MemberReport}
 use Rattle.run_reports.specs.declared.reports.RunReport.{RunReport}
 use Rattle.setup_text.specs.declared.jobs.Job.{Job}
 use Rattle.setup_text.specs.declared.lines.Line.{Line}
 use Rattle.setup_text.specs.declared.setups.Setup.{Setup}
 use Rattle.slot_layout.specs.SlotShapes.{slot_size_of}
-use Rattle.tap_replay.specs.Reported.{member_of}
-use Rattle.tap_replay.specs.Runs.{report_of}
 use Rattle.tp_layout.specs.Blocks.{block_text, descriptor_text}
 use Rattle.tp_layout.specs.Dump.{dump_from, dump_of}
 use Rattle.tp_layout.specs.Requests.{size_of}
 use Rattle.tp_layout.specs.declared.requests.RingRequest.{RingRequest}
-use Rattle.v2_replay.specs.SlotReplays.{slot_member_of}
-use Rattle.v2_replay.specs.SlotRuns.{slot_report_of}
 
 abbrev IsFreeRing : Ring → Type 0
 IsFreeRing ring = IsNeverHeld ring.notes
@@ -95,11 +92,12 @@ dumps_same shape blocks frames notes =
     (state_larger (size_of shape) (size_of (reshaped shape blocks frames)) notes refl)
 
 member_same : (shape : RingRequest) (blocks frames : ℕ) (asked : Bool) (one other : Ring) → Alike one other
-    → member_of (reshaped shape blocks frames) asked other ≡ member_of shape asked one
+    → member_of (block_rules (reshaped shape blocks frames)) asked other ≡ member_of (block_rules shape) asked one
 member_same shape blocks frames asked one other h =
-    let state_is : (state_of other.size other.notes).done ≡ (state_of one.size one.notes).done =
-    ap (λ (notes : List Note). (state_of other.size notes).done) h.notes
-    ∙ ap (λ (s : State). s.done) (state_larger one.size other.size one.notes h.size.tov) in
+    let larger = size_of (reshaped shape blocks frames) in
+    let state_is : (state_of larger other.notes).done ≡ (state_of (size_of shape) one.notes).done =
+    ap (λ (notes : List Note). (state_of larger notes).done) h.notes
+    ∙ ap (λ (s : State). s.done) (state_larger (size_of shape) larger one.notes refl) in
     let dump_is : dump_of (reshaped shape blocks frames) other.notes ≡ dump_of shape one.notes =
     ap (dump_of (reshaped shape blocks frames)) h.notes ∙ dumps_same shape blocks frames one.notes in
     cc (h.notes, state_is, dump_is)
@@ -112,10 +110,16 @@ record Kind : Type 0 where
   reported : RingRequest → Bool → Ring → MemberReport
 
 abbrev of_blocks : Kind
-of_blocks = record { steps = λ shape. block_steps (size_of shape); reported = member_of }
+of_blocks = record {
+  steps = λ shape. block_steps (size_of shape);
+  reported = λ shape asked. member_of (block_rules shape) asked;
+}
 
 abbrev of_slots : Kind
-of_slots = record { steps = λ shape. slot_steps (slot_size_of shape); reported = λ shape asked. slot_member_of asked }
+of_slots = record {
+  steps = λ shape. slot_steps (slot_size_of shape);
+  reported = λ shape asked. member_of (slot_rules shape) asked;
+}
 
 -- the rules and arrivals of a setup, with the filter of a job
 abbrev lens_in : Job → Setup → Lens
@@ -148,8 +152,9 @@ by_setup kind job other blocks frames lines all ends h =
 
 pub blocks_never_froze : (job other : Job) (lines : List Line) (all : List (List ℕ)) (ends : List CpuEnd)
     → HasMoreBlocks job other
-    → All IsFreeMember (report_of job lines all ends).members
-    → report_of other lines all ends ≡ report_of job lines all ends
+    → All IsFreeMember (report_of (block_rules job.setup.shape) job lines all ends).members
+    → report_of (block_rules other.setup.shape) other lines all ends
+    ≡ report_of (block_rules job.setup.shape) job lines all ends
 unfolding report_of
 blocks_never_froze job other lines all ends h free =
     let shape = job.setup.shape in
@@ -157,26 +162,28 @@ blocks_never_froze job other lines all ends h free =
     record { room = refl; tov = refl; more = h.more } in
     by_setup of_blocks job other h.blocks h.frames lines all ends h.reshaped_is
     ∙ reports_same (block_steps (size_of shape)) (block_steps (size_of (reshaped shape h.blocks h.frames)))
-    (blocks_agree (size_of shape) (size_of (reshaped shape h.blocks h.frames)) larger) (member_of shape job.setup.dump)
-    (member_of (reshaped shape h.blocks h.frames) job.setup.dump) (member_same shape h.blocks h.frames job.setup.dump)
+    (blocks_agree (size_of shape) (size_of (reshaped shape h.blocks h.frames)) larger)
+    (member_of (block_rules shape) job.setup.dump)
+    (member_of (block_rules (reshaped shape h.blocks h.frames)) job.setup.dump)
+    (member_same shape h.blocks h.frames job.setup.dump)
     (λ ring. refl)
     (rules_by job.setup.plan (lens_in job job.setup)) _ lines all ends free
 
 pub slots_never_froze : (job other : Job) (lines : List Line) (all : List (List ℕ)) (ends : List CpuEnd)
     → HasMoreSlots job other
-    → All IsFreeMember (slot_report_of job lines all ends).members
-    → slot_report_of other lines all ends ≡ slot_report_of job lines all ends
-unfolding slot_report_of
+    → All IsFreeMember (report_of (slot_rules job.setup.shape) job lines all ends).members
+    → report_of (slot_rules other.setup.shape) other lines all ends ≡ report_of (slot_rules job.setup.shape) job lines all ends
+unfolding report_of
 slots_never_froze job other lines all ends h free =
     let shape = job.setup.shape in
     let asked = job.setup.dump in
     let larger : IsLarger (slot_size_of shape) (slot_size_of (reshaped shape h.blocks h.frames)) =
     record { room = refl; tov = refl; more = h.more } in
-    let same : (one other : Ring) → Alike one other → slot_member_of asked other ≡ slot_member_of asked one =
-    λ one other alike. ap
-    (λ (notes : List Note). slot_member_of asked (record (fresh one.size) { notes = notes })) alike.notes in
+    let reported : Ring → MemberReport = member_of (slot_rules shape) asked in
+    let same : (one other : Ring) → Alike one other → reported other ≡ reported one =
+    λ one other alike. ap (λ (notes : List Note). reported (record (fresh one.size) { notes = notes })) alike.notes in
     by_setup of_slots job other h.blocks h.frames lines all ends h.reshaped_is
     ∙ reports_same (slot_steps (slot_size_of shape)) (slot_steps (slot_size_of (reshaped shape h.blocks h.frames)))
-    (slots_agree (slot_size_of shape) (slot_size_of (reshaped shape h.blocks h.frames)) larger) (slot_member_of asked)
-    (slot_member_of asked) same (λ ring. refl)
+    (slots_agree (slot_size_of shape) (slot_size_of (reshaped shape h.blocks h.frames)) larger) reported
+    reported same (λ ring. refl)
     (rules_by job.setup.plan (lens_in job job.setup)) _ lines all ends free

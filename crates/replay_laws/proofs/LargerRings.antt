@@ -13,7 +13,7 @@ use Rattle.fanout_group.specs.declared.logs.ArrivalLog.{ArrivalLog}
 use Rattle.receive_ring.specs.Replay.{Cpu, Replay, Tried, arrived, closed, cpu_at, done_line, done_lines}
 use Rattle.receive_ring.specs.Replay.{fed_by, feed, feed_from, feed_times, finished_ring, next_ticket, no_cpu}
 use Rattle.receive_ring.specs.Replay.{replayed, started, ticket_of, tries_of}
-use Rattle.receive_ring.specs.RingSteps.{RingSteps, read_by, ticked, ticked_by}
+use Rattle.run_reports.specs.RingSteps.{RingSteps, read_by, ticked, ticked_by}
 use Rattle.setup_text.specs.declared.lines.Line.{Line}
 use Rattle.setup_text.specs.declared.lines.Line.TheVariants.{Feed, Read, Tick, Stats}
 use Rattle.replay_laws.proofs.AlikeRings.{Alike, AllAlike, Tracks, get_alike, note_alike, noted_alike, set_alike}

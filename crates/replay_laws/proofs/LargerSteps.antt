@@ -20,8 +20,8 @@ use Rattle.slot_layout.specs.SlotSteps.{next_slot, slot_state_of}
 use Rattle.replay_laws.specs.Larger.{IsLarger, IsSame}
 use Rattle.ring_events.specs.Happenings.{IsNeverHeld}
 use Rattle.receive_ring.specs.Replay.{replayed}
-use Rattle.receive_ring.specs.RingSteps.{RingSteps, block_steps}
-use Rattle.receive_ring.specs.SlotRings.{slot_steps}
+use Rattle.run_reports.specs.RingSteps.{RingSteps, block_steps}
+use Rattle.run_reports.specs.RingSteps.{slot_steps}
 use Rattle.replay_laws.proofs.AlikeRings.{Alike, same_replay}
 use Rattle.replay_laws.proofs.Helds.{all_never, found_held}
 use Rattle.replay_laws.proofs.LargerRings.{replayed_tracks}

@@ -16,7 +16,7 @@ use Rattle.replay_laws.specs.Larger.{IsLarger}
 use Rattle.receive_ring.specs.Replay.{Tried, and_then, fate_of}
 use Rattle.receive_ring.specs.Replay.{no_ring}
 use Rattle.receive_ring.specs.Replay.{noted_at, or_put_at, put_at, routed, tries_of, try_round}
-use Rattle.receive_ring.specs.RingSteps.{RingSteps, try_note}
+use Rattle.run_reports.specs.RingSteps.{RingSteps, try_note}
 use Rattle.replay_laws.proofs.AlikeRings.{Alike, AllAlike, as_many, get_alike, noted_alike}
 use Rattle.replay_laws.proofs.Helds.{all_helds, found_held, noted_inside, or_put_grows}
 use Rattle.replay_laws.proofs.Helds.{put_grows}

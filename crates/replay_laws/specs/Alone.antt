@@ -4,7 +4,7 @@ use Rattle.std.specs.Prelude.{slice_index_or, slice_set, ◌==◌, if◌then◌e
 use Rattle.frame_view.specs.declared.frames.Frame.{Frame}
 use Rattle.fanout_group.specs.Rules.{Rules, home_of}
 use Rattle.receive_ring.specs.Replay.{finished_ring, next_ticket, ticket_of}
-use Rattle.receive_ring.specs.RingSteps.{RingSteps, put_note, read_by, ticked, try_note}
+use Rattle.run_reports.specs.RingSteps.{RingSteps, put_note, read_by, ticked, try_note}
 use Rattle.ring_events.specs.declared.events.Happening.{Happening}
 use Rattle.ring_events.specs.declared.events.Happening.TheVariants.{Put, Try, Tick, Read, ReadAll}
 use Rattle.ring_events.specs.declared.events.Happening.TheVariants.{Count}

@@ -5,12 +5,13 @@ ghost use Rattle.capture_file.specs.declared.cpu_end.CpuEnd.{CpuEnd};
 ghost use Rattle.frame_view.specs.declared.frames.Frame.{Frame};
 ghost use Rattle.fanout_group.specs.Rules.{Rules, rolls_over};
 ghost use Rattle.receive_ring.specs.Replay.{finished_ring, replayed};
-ghost use Rattle.receive_ring.specs.RingSteps.{RingSteps, block_steps};
-ghost use Rattle.receive_ring.specs.SlotRings.{slot_steps};
+ghost use Rattle.run_reports.specs.RingSteps.{RingSteps, block_steps};
+ghost use Rattle.run_reports.specs.RingSteps.{slot_steps};
 ghost use Rattle.replay_laws.specs.AlikeSlots.{IsLikeSlotRing, KeepsTags, SlotsWentOnAlike};
 ghost use Rattle.replay_laws.specs.Alone.{all_happened_by, alone, dealt};
 ghost use Rattle.replay_laws.specs.Larger.{IsLarger, IsSame};
 ghost use Rattle.replay_laws.specs.LargerJobs.{HasMoreBlocks, HasMoreSlots, ShowsNoFreeze};
+ghost use Rattle.replay_laws.specs.LargerJobs.{block_report, slot_report};
 ghost use Rattle.ring_events.specs.Happenings.{IsNeverHeld, all_happened};
 ghost use Rattle.ring_events.specs.declared.events.Happening.{Happening};
 ghost use Rattle.ring_laws.specs.Alike.{AreLikeHappenings, Gap, KeepsSnaps};
@@ -19,12 +20,11 @@ ghost use Rattle.ring_model.specs.Ring.{Size};
 ghost use Rattle.ring_model.specs.Rings.{Ring, fresh};
 ghost use Rattle.run_reports.specs.Jobs.{rules_of};
 ghost use Rattle.run_reports.specs.Reports.{IsRunReport};
+ghost use Rattle.run_reports.specs.RingRules.{block_rules};
 ghost use Rattle.run_reports.specs.declared.reports.RunReport.{RunReport};
 ghost use Rattle.setup_text.specs.TickOrder.{IsSchedule};
 ghost use Rattle.setup_text.specs.declared.jobs.Job.{Job};
 ghost use Rattle.setup_text.specs.declared.lines.Line.{Line};
-ghost use Rattle.tap_replay.specs.Runs.{report_of};
-ghost use Rattle.v2_replay.specs.SlotRuns.{slot_report_of};
 
 use ring_laws::a_ring_that_counted_no_freeze_found_none_held;
 
@@ -81,20 +81,21 @@ pub fn a_job_that_never_froze_reports_as_with_more_blocks()
     ensures blocks { (job other : Job) (lines : List Line) (all : List (List ℕ))
         (ends : List CpuEnd)
         → HasMoreBlocks job other
-        → All (λ member. IsNeverHeld member.notes) (report_of job lines all ends).members
-        → report_of other lines all ends ≡ report_of job lines all ends }
+        → All (λ member. IsNeverHeld member.notes) (block_report job lines all ends).members
+        → block_report other lines all ends ≡ block_report job lines all ends }
     ensures slots { (job other : Job) (lines : List Line) (all : List (List ℕ))
         (ends : List CpuEnd)
         → HasMoreSlots job other
-        → All (λ member. IsNeverHeld member.notes) (slot_report_of job lines all ends).members
-        → slot_report_of other lines all ends ≡ slot_report_of job lines all ends }
+        → All (λ member. IsNeverHeld member.notes) (slot_report job lines all ends).members
+        → slot_report other lines all ends ≡ slot_report job lines all ends }
 {}
 
 /// In the report of a run without rollover a member whose line has `freezes 0` found no block still
 /// the reader's: no packet is handed back, and each block found held would be a drop or a freeze.
 pub fn a_member_without_a_freeze_found_none_held()
     ensures { (job : Job) (bytes : List (List ℕ)) (ends : List CpuEnd) (report : RunReport)
-        → IsRunReport job bytes ends report → rolls_over (rules_of job) ≡ false
+        → IsRunReport (block_rules job.setup.shape) job bytes ends report
+        → rolls_over (rules_of job) ≡ false
         → All (λ member. ShowsNoFreeze job.setup.shape member → IsNeverHeld member.notes)
         report.members }
 {
@@ -105,11 +106,12 @@ pub fn a_member_without_a_freeze_found_none_held()
 /// blocks.
 pub fn a_replay_without_a_freeze_reports_as_with_more_blocks()
     ensures { (job other : Job) (lines : List Line) (bytes : List (List ℕ)) (ends : List CpuEnd)
-        → IsRunReport job bytes ends (report_of job lines bytes ends)
+        → IsRunReport (block_rules job.setup.shape) job bytes ends
+        (block_report job lines bytes ends)
         → rolls_over (rules_of job) ≡ false
-        → All (ShowsNoFreeze job.setup.shape) (report_of job lines bytes ends).members
+        → All (ShowsNoFreeze job.setup.shape) (block_report job lines bytes ends).members
         → HasMoreBlocks job other
-        → report_of other lines bytes ends ≡ report_of job lines bytes ends }
+        → block_report other lines bytes ends ≡ block_report job lines bytes ends }
 {
     a_member_without_a_freeze_found_none_held();
     a_job_that_never_froze_reports_as_with_more_blocks();

@@ -11,7 +11,7 @@ use Rattle.capture_file.specs.declared.cpu_end.CpuEnd.{CpuEnd}
 use Rattle.frame_view.specs.declared.frames.Frame.{Frame}
 use Rattle.receive_ring.specs.Replay.{Cpu, Replay}
 use Rattle.receive_ring.specs.Reports.{IsReplayReport, logged_of, notes_of}
-use Rattle.receive_ring.specs.RingSteps.{RingSteps}
+use Rattle.run_reports.specs.RingSteps.{RingSteps}
 use Rattle.ring_model.specs.Rings.{Ring}
 use Rattle.ring_model.specs.declared.notes.Note.{Note}
 use Rattle.run_reports.specs.Jobs.{arriving_of, captures_from, rules_of}

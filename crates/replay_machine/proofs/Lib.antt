@@ -12,3 +12,5 @@ pub mod GroupReports
 pub mod ReadBlocks
 pub mod MemberSteps
 pub mod OneMore
+mod JobReports
+mod Replayed

@@ -12,7 +12,7 @@ use Rattle.fanout_group.specs.Plans.{has_defrag}
 use Rattle.fanout_group.specs.Rules.{Rules}
 use Rattle.frame_view.specs.declared.frames.Frame.{Frame}
 use Rattle.receive_ring.specs.Replay.{Cpu, Replay, cpu_at, fed_by, feed, feed_from, feed_times, no_cpu, no_ring, noted_at}
-use Rattle.receive_ring.specs.RingSteps.{RingSteps, read_by, ticked as ticked_ring, ticked_by}
+use Rattle.run_reports.specs.RingSteps.{RingSteps, read_by, ticked as ticked_ring, ticked_by}
 use Rattle.setup_text.specs.declared.lines.Line.{Line}
 use Rattle.setup_text.specs.declared.lines.Line.TheVariants.{Feed, Read, Tick, Stats}
 use Rattle.receive_ring.proofs.KeptArrivals.{arrived_is}

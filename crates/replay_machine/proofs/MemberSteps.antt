@@ -7,7 +7,7 @@ use Rattle.std.proofs.lemmas.List.{append-nil}
 use Rattle.reader_walk.specs.Readers.{ComesFrom, ReaderValue, Reads, new_reader, outputs_by}
 use Rattle.reader_walk.specs.declared.outputs.Outputs.{Outputs}
 use Rattle.receive_ring.specs.Rings.{Becomes, Closes, Grows, Opens, Receiving, StaysThere, TookOne, Waits, ring_by, ring_in}
-use Rattle.receive_ring.specs.RingSteps.{RingSteps, read_by, ticked_by}
+use Rattle.run_reports.specs.RingSteps.{RingSteps, read_by, ticked_by}
 use Rattle.receive_ring.specs.TakenOffers.{Takes}
 use Rattle.ring_model.specs.Rings.{Ring, fresh, noted}
 use Rattle.ring_model.specs.declared.notes.Found.{Found}

@@ -12,7 +12,7 @@ use Rattle.fanout_group.specs.declared.logs.Fate.{Fate}
 use Rattle.fanout_group.specs.declared.modes.Mode.{Mode}
 use Rattle.fanout_group.specs.declared.modes.Mode.TheVariants.{Hash, Lb, Cpu, Rollover, Qm}
 use Rattle.receive_ring.specs.Replay.{fate_of, next_ticket, no_ring, noted_at, ticket_of}
-use Rattle.receive_ring.specs.RingSteps.{RingSteps, put_note, try_note}
+use Rattle.run_reports.specs.RingSteps.{RingSteps, put_note, try_note}
 use Rattle.receive_ring.specs.TakenOffers.{Takes}
 use Rattle.ring_model.specs.KnownReleases.{put_by, try_by}
 use Rattle.ring_model.specs.Offers.{IsSound}

@@ -14,7 +14,7 @@ use Rattle.fanout_group.specs.declared.modes.Mode.{Mode}
 use Rattle.frame_view.specs.declared.frames.Frame.{Frame}
 use Rattle.receive_ring.specs.Replay.{Cpu, Replay, Tried, arrived, cpu_at, next_ticket, no_ring, routed, ticket_of, tries_of}
 use Rattle.receive_ring.specs.TakenOffers.{Takes}
-use Rattle.receive_ring.specs.RingSteps.{RingSteps}
+use Rattle.run_reports.specs.RingSteps.{RingSteps}
 use Rattle.ring_model.specs.Offers.{IsSound, offer_of}
 use Rattle.ring_model.specs.Ring.{Size}
 use Rattle.ring_model.specs.Rings.{Ring, noted}

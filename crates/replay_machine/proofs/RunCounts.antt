@@ -6,7 +6,7 @@ use Rattle.std.specs.List.{AllByRecursion}
 use Rattle.std.proofs.lemmas.Bool.{cases_lt}
 use Rattle.std.proofs.lemmas.List.{set_past}
 use Rattle.std.proofs.lemmas.List.Elements.{All-map, All-replicate, All-set}
-use Rattle.receive_ring.specs.RingSteps.{RingSteps, read_by, ticked, ticked_by}
+use Rattle.run_reports.specs.RingSteps.{RingSteps, read_by, ticked, ticked_by}
 use Rattle.cpu_feed.specs.Fed.{FedOne}
 use Rattle.cpu_feed.specs.CpuFeeds.{Feeding}
 use Rattle.fanout_group.proofs.Rounds.{length-refused_from}

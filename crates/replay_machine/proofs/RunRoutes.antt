@@ -8,7 +8,7 @@ use Rattle.fanout_group.specs.declared.logs.Fate.{Fate}
 use Rattle.fanout_group.specs.declared.logs.Fate.TheVariants as fates
 use Rattle.fanout_group.specs.declared.logs.Try.{Try}
 use Rattle.receive_ring.specs.Replay.{Tried, and_then, fate_of, no_ring, noted_at, or_put_at, put_at, routed, try_round}
-use Rattle.receive_ring.specs.RingSteps.{RingSteps, put_note, try_note}
+use Rattle.run_reports.specs.RingSteps.{RingSteps, put_note, try_note}
 use Rattle.ring_model.specs.KnownReleases.{put_by, try_by}
 use Rattle.ring_model.specs.Rings.{Ring}
 use Rattle.ring_model.specs.declared.notes.Found.{Found}

@@ -15,7 +15,7 @@ use Rattle.fanout_group.specs.declared.logs.ArrivalLog.{ArrivalLog}
 use Rattle.fanout_group.specs.declared.logs.Try.{Try}
 use Rattle.frame_view.specs.declared.frames.Frame.{Frame}
 use Rattle.receive_ring.specs.Replay.{Replay, arrived, feed, ticket_of}
-use Rattle.receive_ring.specs.RingSteps.{RingSteps}
+use Rattle.run_reports.specs.RingSteps.{RingSteps}
 use Rattle.ring_model.specs.Rings.{Ring}
 use Rattle.ring_model.specs.declared.notes.Offer.{Offer}
 use Rattle.setup_text.specs.declared.jobs.Job.{Job}

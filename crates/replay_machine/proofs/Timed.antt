@@ -16,7 +16,7 @@ use Rattle.ring_model.specs.declared.notes.Note.{Note}
 use Rattle.ring_model.specs.declared.notes.Note.TheVariants.{Kept, Refused, Dropped, Ticked, Counted, Finished}
 use Rattle.ring_model.specs.declared.notes.Offer.{Offer}
 use Rattle.receive_ring.specs.Replay.{no_ring}
-use Rattle.receive_ring.specs.RingSteps.{RingSteps, read_by, ticked, ticked_by}
+use Rattle.run_reports.specs.RingSteps.{RingSteps, read_by, ticked, ticked_by}
 use Rattle.receive_ring.specs.TakenOffers.{MayCome}
 use Rattle.receive_ring.proofs.KeptOpen.{read_notes}
 use Rattle.setup_text.specs.TickOrder.{AreAscending}

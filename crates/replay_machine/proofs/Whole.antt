@@ -7,7 +7,7 @@ use Rattle.fanout_group.specs.Plans.{Shape}
 use Rattle.frame_view.specs.declared.frames.Frame.{Frame}
 use Rattle.receive_ring.specs.Replay.{Cpu, Replay, arrived, cpu_at, fed_by, feed, no_cpu}
 use Rattle.fanout_group.specs.Rules.{Rules}
-use Rattle.receive_ring.specs.RingSteps.{RingSteps}
+use Rattle.run_reports.specs.RingSteps.{RingSteps}
 use Rattle.cpu_feed.specs.CpuFeeds.{Feeding, IsAllOfCpu, IsSameCpu, next_of, Takes, waiting_of}
 use Rattle.replay_machine.specs.RunStates.{AreAllOf, AreCpus, RunValue, cpu_in, cpus_of, no_feeding, whole, cpu_of}
 

@@ -12,7 +12,7 @@ use Rattle.capture_file.specs.declared.cpu_end.CpuEnd.{CpuEnd}
 use Rattle.fanout_group.specs.declared.runs.CpuLog.{CpuLog}
 use Rattle.frame_view.specs.declared.frames.Frame.{Frame}
 use Rattle.receive_ring.specs.Replay.{Cpu, Replay, closed, done_line, done_lines, feed_from, replayed, started}
-use Rattle.receive_ring.specs.RingSteps.{RingSteps}
+use Rattle.run_reports.specs.RingSteps.{RingSteps}
 use Rattle.setup_text.specs.TickOrder.{IsSchedule}
 use Rattle.setup_text.specs.declared.lines.Line.{Line}
 use Rattle.setup_text.specs.declared.lines.Line.TheVariants.{Feed}
@@ -26,7 +26,8 @@ use Rattle.cpu_feed.specs.CpuFeeds.{Closes, Feeding, frames_in}
 use Rattle.cpu_feed.proofs.ClosedOnes.{all_gave, closed_many}
 use Rattle.replay_machine.specs.RunStates.{AreAllOf, AreCpus, IsCounted, IsRun, RunValue, cpus_of, firsts_of, whole, cpu_of}
 use Rattle.run_reports.specs.Jobs.{captures_from, rules_of}
-use Rattle.replay_machine.specs.Runs.{IsReplayedOver, log_of, logs_from, replay_over, report_with}
+use Rattle.replay_machine.specs.Runs.{log_of, logs_from, replay_over, report_with}
+use Rattle.replay_machine.specs.inside.OverRings.{IsReplayedOver}
 use Rattle.capture_reading.specs.Sources.{AllGave}
 use Rattle.tap_outside.specs.Seen.{SourceSeen}
 use Rattle.replay_machine.specs.inside.RunEffects.{FedRest, Finishes, LineDone, Starts, starting_from}

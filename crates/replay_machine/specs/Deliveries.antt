@@ -2,7 +2,7 @@
 use Rattle.std.specs.Prelude.{◌≡◌, ◌⊎◌, ◌<◌, List, [], ◌∷◌, length, slice_index_or}
 use Rattle.fanout_group.specs.declared.logs.Try.{Try}
 use Rattle.receive_ring.specs.Replay.{fate_of, no_ring, noted_at}
-use Rattle.receive_ring.specs.RingSteps.{RingSteps, put_note, try_note}
+use Rattle.run_reports.specs.RingSteps.{RingSteps, put_note, try_note}
 use Rattle.ring_model.specs.Rings.{Ring}
 use Rattle.ring_model.specs.declared.notes.Note.{Note}
 use Rattle.ring_model.specs.declared.notes.Offer.{Offer}

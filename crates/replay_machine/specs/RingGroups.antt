@@ -2,7 +2,7 @@
 use Rattle.std.specs.Prelude.{◌≡◌, ℕ, ◌+◌, ◌^◌, ◌<◌, ◌≤◌, List, length, slice_index_or, All}
 use Rattle.fanout_group.specs.declared.logs.Try.{Try}
 use Rattle.receive_ring.specs.Replay.{no_ring}
-use Rattle.receive_ring.specs.RingSteps.{RingSteps}
+use Rattle.run_reports.specs.RingSteps.{RingSteps}
 use Rattle.receive_ring.specs.TakenOffers.{Takes}
 use Rattle.ring_model.specs.Rings.{Ring}
 use Rattle.ring_model.specs.declared.notes.Offer.{Offer}

@@ -8,7 +8,7 @@ use Rattle.fanout_group.specs.Plans.{Shape}
 use Rattle.fanout_group.specs.declared.modes.Mode.TheVariants.{Hash}
 use Rattle.frame_view.specs.declared.frames.Frame.{Frame}
 use Rattle.receive_ring.specs.Replay.{Cpu, Replay, feed}
-use Rattle.receive_ring.specs.RingSteps.{RingSteps}
+use Rattle.run_reports.specs.RingSteps.{RingSteps}
 use Rattle.ring_model.specs.Rings.{Ring}
 use Rattle.setup_text.specs.declared.jobs.Job.{Job}
 use Rattle.replay_machine.specs.Deliveries.{ChangedByTries}

@@ -1,13 +1,18 @@
--- What the replay of a job over rings of one kind reports of the bytes that its CPUs' sources gave.
-use Rattle.std.specs.Prelude.{◌≡◌, ℕ, ◌+◌, List, [], ◌∷◌, length, map, Option}
+-- What the replay of a job reports of the bytes that its CPUs' sources gave.
+use Rattle.std.specs.Prelude.{◌≡◌, ℕ, ◌+◌, Bool, List, [], ◌∷◌, length, map, Option, None}
 use Rattle.capture_file.specs.Capture.{frames_of}
 use Rattle.capture_file.specs.declared.cpu_end.CpuEnd.{CpuEnd}
 use Rattle.capture_reading.specs.Sources.{AllGave}
 use Rattle.fanout_group.specs.declared.runs.CpuLog.{CpuLog}
 use Rattle.receive_ring.specs.Replay.{Cpu, Replay, replayed}
-use Rattle.receive_ring.specs.RingSteps.{RingSteps}
+use Rattle.ring_model.specs.Fates.{kept_of}
+use Rattle.ring_model.specs.Offers.{packet_of}
 use Rattle.ring_model.specs.Rings.{Ring}
 use Rattle.run_reports.specs.Jobs.{arriving_of, rules_of}
+use Rattle.run_reports.specs.Members.{dump_where}
+use Rattle.run_reports.specs.Reports.{IsRunReport}
+use Rattle.run_reports.specs.RingRules.{RingRules}
+use Rattle.run_reports.specs.RingSteps.{RingSteps}
 use Rattle.setup_text.specs.declared.lines.Line.{Line}
 use Rattle.setup_text.specs.declared.jobs.Job.{Job}
 use Rattle.run_reports.specs.declared.reports.MemberReport.{MemberReport}
@@ -42,12 +47,33 @@ report_with reported all ends replay = record {
   members = map reported replay.members;
 }
 
--- the job was replayed by these lines: its sources gave these bytes and ended in this way, and the
--- report is the replay report
-pub record IsReplayedOver (steps : RingSteps) (reported : Ring → MemberReport) (job : Job)
-    (lines : List Line) (old new : List (Option SourceSeen)) (report : RunReport) : Type 0 where
+-- what is reported of a closed ring: the packets of the offers that it kept, the bytes of what it
+-- handed over if they are asked for, and how many blocks or slots that was; one thread ran it
+abbrev pub member_of : RingRules → Bool → Ring → MemberReport
+member_of rings asked ring = record {
+  notes = ring.notes;
+  walked = map (packet_of rings.fills) (kept_of ring.notes);
+  dump = dump_where rings asked ring.notes;
+  blocks = rings.handed ring.notes;
+  ring = None;
+}
+
+-- the replay of a job over such rings
+abbrev pub replay_of : RingRules → Job → List Line → List (List ℕ) → Replay
+replay_of rings job lines all = replay_over rings.steps job lines all
+
+-- the report of a replay of sources that gave these bytes and ended in this way
+unfoldable pub report_of :
+    RingRules → Job → List Line → List (List ℕ) → List CpuEnd → RunReport
+report_of rings job lines all ends =
+    report_with (member_of rings job.setup.dump) all ends (replay_of rings job lines all)
+
+-- the job was replayed by these lines over such rings: its sources gave these bytes and ended in
+-- this way, the report is that of a run over them, and it is the replay report
+pub record IsReplayed (rings : RingRules) (job : Job) (lines : List Line)
+    (old new : List (Option SourceSeen)) (report : RunReport) : Type 0 where
   pub bytes : List (List ℕ)
   pub ends : List CpuEnd
-  pub many : length ends ≡ length bytes
   pub gave : AllGave old new bytes ends
-  pub report_is : report ≡ report_with reported bytes ends (replay_over steps job lines bytes)
+  pub run : IsRunReport rings job bytes ends report
+  pub report_is : report ≡ report_of rings job lines bytes ends

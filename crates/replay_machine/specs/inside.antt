@@ -2,3 +2,4 @@
 pub mod RunEffects
 pub mod RunRules
 pub mod Members
+pub mod OverRings

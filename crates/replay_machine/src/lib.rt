@@ -3,6 +3,7 @@
 #![tactic(auto)]
 
 mod closed_replays;
+mod laws;
 mod member;
 mod new_replays;
 mod replay_run;
@@ -11,5 +12,6 @@ mod room_rules;
 mod runs;
 mod settings;
 
-pub use runs::replay_over;
+pub use laws::a_job_reports_a_group;
+pub use runs::replay_over_rings;
 pub use settings::Setting;

@@ -6,7 +6,7 @@
 ghost use Rattle.std.specs.Prelude.{◌≡◌, ◌^◌, ◌<◌, ◌≤◌, length, IfErr, IfOk, OnErr, OnOk};
 ghost use Rattle.replay_machine.specs.Reported.{reported_by};
 ghost use Rattle.receive_ring.specs.Replay.{finished_ring};
-ghost use Rattle.receive_ring.specs.RingSteps.{put_note, read_by, ticked, try_note};
+ghost use Rattle.run_reports.specs.RingSteps.{put_note, read_by, ticked, try_note};
 ghost use Rattle.receive_ring.specs.TakenOffers.{Takes};
 ghost use Rattle.ring_model.specs.Rings.{fresh, noted};
 ghost use Rattle.ring_model.specs.Told.{put_told, try_told};

@@ -4,7 +4,7 @@ ghost use Rattle.std.specs.Prelude.{slice_set, All, OnOk};
 ghost use Rattle.replay_machine.specs.GroupLaws.{made_by_more, made_by_none, room_for_fewer};
 ghost use Rattle.replay_machine.specs.RingGroups.{HasRoomFor, IsDrawn, IsMadeBy, TakesAt};
 ghost use Rattle.receive_ring.specs.Replay.{no_ring, noted_at};
-ghost use Rattle.receive_ring.specs.RingSteps.{read_by, ticked};
+ghost use Rattle.run_reports.specs.RingSteps.{read_by, ticked};
 ghost use Rattle.ring_model.specs.Unreleased.{last_moment};
 ghost use Rattle.ring_model.specs.declared.notes.Note.TheVariants.{Counted};
 

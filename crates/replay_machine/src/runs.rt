@@ -1,12 +1,15 @@
 //! The replay of a job over the rings of its members: its sources are read as its schedule asks for
 //! their frames.
 ghost use Rattle.std.specs.Prelude.{◌≡◌, ◌^◌, ◌<◌, length, map, option_map, IfOk};
+ghost use Rattle.run_reports.specs.RingRules.{rules_by};
 ghost use Rattle.setup_text.specs.TickOrder.{IsSchedule};
 ghost use Rattle.replay_machine.specs.Reported.{reported_by};
-ghost use Rattle.replay_machine.specs.Runs.{IsReplayedOver};
+ghost use Rattle.replay_machine.specs.Runs.{IsReplayed};
+ghost use Rattle.replay_machine.specs.inside.OverRings.{IsReplayedOver};
 
 use crate::Setting;
 use crate::closed_replays::finish;
+use crate::laws::a_job_reports_a_group;
 use crate::new_replays::start;
 use frame_view::Memory;
 use receive_ring::ReceiveRing;
@@ -20,7 +23,7 @@ use tap_outside::Source;
 /// order, and then each CPU from 0 up to its end. The sources are one for each CPU, and come back
 /// less the bytes that they gave; a CPU without one ends with a fault. The only error is that an
 /// allocation fails, and the sources are dropped then.
-pub fn replay_over<S: Source, R: ReceiveRing>(
+pub fn replay_over_rings<S: Source, R: ReceiveRing>(
     alloc: Global,
     job: &Job,
     sources: Vec<Option<S>>,
@@ -30,13 +33,13 @@ pub fn replay_over<S: Source, R: ReceiveRing>(
     requires sources { length sources.items ≡ length job.now.setup.cpus }
     requires schedule { IsSchedule schedule.now }
     requires few { length schedule.now < 2 ^ 32 }
-    ensures ran { IfOk result (λ ran. IsReplayedOver (R.steps job.now.setup.shape)
-        (reported_by R.Unit.text_of R.reads job.now.setup.shape job.now.setup.dump)
+    ensures ran { IfOk result (λ ran. IsReplayed (rules_by R.kind job.now.setup.shape)
         job.now schedule.now
         (map (option_map S.seen) sources.items)
         (map (option_map S.seen) ran.sources.items)
         ran.report) }
 {
+    a_job_reports_a_group();
     replay_as::<S, R, Brand>(alloc, job, sources, schedule)
 }
 

@@ -7,3 +7,4 @@ mod Once
 mod Lasts
 pub mod GroupTotals
 pub mod Totals
+mod PlacesLeft

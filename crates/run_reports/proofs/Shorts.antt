@@ -1,5 +1,5 @@
 -- Each packet that a group reports is short enough for an output file: it was cut to the room of a
--- block.
+-- block or slot.
 use Rattle.std.proofs.Common.{◌≡◌, ℕ, ◌<◌, ◌≤◌, Bool, List, [], ◌∷◌, length, get_or, Option, sym, subst, arith}
 use Rattle.std.specs.Prelude.{All, map}
 use Rattle.std.specs.List.{AllByRecursion}
@@ -17,10 +17,13 @@ use Rattle.ring_model.specs.declared.notes.Offer.{Offer}
 use Rattle.setup_text.specs.declared.jobs.Job.{Job}
 use Rattle.run_reports.specs.declared.reports.MemberReport.{MemberReport}
 use Rattle.run_reports.specs.declared.reports.RunReport.{RunReport}
-use Rattle.tp_layout.specs.Requests.{fills_hash, room_of}
 use Rattle.run_reports.specs.Jobs.{rules_of}
 use Rattle.run_reports.specs.Members.{AreShort}
 use Rattle.run_reports.specs.Reports.{IsReport, logged, notes_of}
+use Rattle.run_reports.specs.RingRules.{Serves, rules_by}
+use Rattle.run_reports.specs.declared.ring_kind.RingKind.{RingKind}
+use Rattle.run_reports.specs.declared.ring_kind.RingKind.TheVariants.{Blocks, Slots}
+use Rattle.slot_layout.proofs.SlotBounds.{slot_bounds}
 use Rattle.run_reports.proofs.KeptOffers.{IsCut, all_cut}
 
 packets_short : (fills : Bool) (room : ℕ) (offers : List Offer) → room ≤ 4294967373 → AllByRecursion (IsCut room) offers
@@ -55,11 +58,17 @@ module _ (rules : Rules) (room : ℕ) (fills : Bool) (cpus : List Logged) (membe
       subst (λ (ps : List Packet). All IsShort ps) (sym (walked at d within))
       (All-from_recursion IsShort _ (packets_short fills room (kept_of (get_or members at d).notes) small (cut_at at d within)))
 
-pub are_short : (job : Job) (arriving : List (List (Option Frame))) (report : RunReport)
-    → IsReport (rules_of job) job.setup.shape job.setup.dump arriving report → AreShort report.members
-are_short job arriving report h =
-    let room = room_of job.setup.shape in
-    let low = job.runnable.ring.small in
-    short_members (rules_of job) room (fills_hash job.setup.shape) (logged arriving report.cpus) report.members
-    (omega (arith, low)) h.group
+-- the room of these rings is small enough
+room_small : (kind : RingKind) (job : Job) → Serves kind job.setup.shape
+    → (rules_by kind job.setup.shape).steps.size.room ≤ 4294967373
+room_small Blocks job serves = (let low = job.runnable.ring.small in omega (arith, low))
+room_small Slots job serves = (let low = (slot_bounds job.setup.shape serves).small in omega (arith, low))
+
+pub are_short : (kind : RingKind) (job : Job) (arriving : List (List (Option Frame))) (report : RunReport)
+    → Serves kind job.setup.shape
+    → IsReport (rules_by kind job.setup.shape) (rules_of job) job.setup.dump arriving report → AreShort report.members
+are_short kind job arriving report serves h =
+    let rings = rules_by kind job.setup.shape in
+    short_members (rules_of job) rings.steps.size.room rings.fills (logged arriving report.cpus) report.members
+    (room_small kind job serves) h.group
     (λ at d within. let member = h.members at d within in member.walked)

@@ -1,3 +1,5 @@
+pub mod RingSteps
+pub mod RingRules
 pub mod Jobs
 pub mod Blocks
 pub mod Logs

@@ -27,14 +27,14 @@ use Rattle.tap_outside.specs.Seen.{SinkSeen, StoreSeen}
 use Rattle.tap_reading.specs.Readers.{Says, setup_for}
 use Rattle.capture_reading.specs.Sources.{UnlessFault, WhereEnded, end_by}
 use Rattle.tap_saving.specs.Saves.{marked}
-use Rattle.tap_engine.specs.Commands.{Named, has_schedule, rings_of}
+use Rattle.tap_engine.specs.Commands.{Named, has_schedule}
 use Rattle.tap_engine.specs.Complete.{AreSoundLast, AreSoundTicks, AreWhole, IsComplete, IsSound}
 use Rattle.tap_engine.specs.Complete.{IsSoundFilter, IsSoundSchedule, NothingFails, text_in}
 use Rattle.tap_engine.specs.Conclusions.{IsDone, IsFailed, IsPrinted, Tells}
 use Rattle.tap_engine.specs.Findings.{IsFound, fault_at, faults_in, lines_of, report_in}
 use Rattle.tap_engine.specs.Findings.{status_by_end, status_of, status_of_logs}
 use Rattle.tap_engine.specs.Headline.{AreCaptures, CapturesFor, GivenFor, IsCapture, IsHeadline}
-use Rattle.tap_engine.specs.Headline.{IsWorth}
+use Rattle.tap_engine.specs.Headline.{IsWorth, rules_for}
 use Rattle.tap_engine.specs.Jobs.{HasBadFilter, HasBadSchedule, HasBadText, HasBadTicks, HasSetup}
 use Rattle.tap_engine.specs.Jobs.{lines_for}
 use Rattle.tap_engine.specs.Names.{filter_for, first_file, ticks_for}
@@ -339,7 +339,7 @@ fine_report files old new named report held sound h none =
     (subst (λ (o : Option Contents). HasSetup o named h.job.setup) held h.job_is.setup)
     (subst (λ (o : Option Contents). CapturesFor named.command o h.job.setup h.bytes h.ends) held
     h.captures)
-    (report_ends (rings_of named.command) h.job h.bytes h.ends report h.report_is) none
+    (report_ends (rules_for named.command h.job) h.job h.bytes h.ends report h.report_is) none
 
 -- the first capture is whole, if it is sent
 first_whole : (files : Contents) (named : Named) (setup : Setup) (job : Job) → IsSound files named

@@ -22,9 +22,9 @@ use Rattle.tap_reading.specs.Readers.{Refuses, Says, StopsAtSetup, StopsAtText}
 use Rattle.tap_reading.specs.declared.stops.Stop.{Stop}
 use Rattle.tap_reading.specs.declared.stops.Stop.TheVariants as stops
 use Rattle.tap_saving.specs.Files.{names_from}
-use Rattle.tap_engine.specs.Commands.{Named, has_schedule, rings_of, sends}
+use Rattle.tap_engine.specs.Commands.{Named, has_schedule, sends}
 use Rattle.tap_engine.specs.Findings.{IsFound, IsReady, IsReported, IsSentBy, finding_of, names_of}
-use Rattle.tap_engine.specs.Headline.{CapturesFor, IsHeadline}
+use Rattle.tap_engine.specs.Headline.{CapturesFor, IsHeadline, rules_for}
 use Rattle.tap_engine.specs.Given.{ReadTexts, first_texts}
 use Rattle.tap_engine.specs.Jobs.{CantReadNext, CantReadText, HasSetup, IsAsked, IsLoaded, Stops}
 use Rattle.tap_engine.specs.Jobs.{lines_for}
@@ -233,7 +233,7 @@ members_count : (old new : StoreSeen) (named : Named) (report : RunReport)
     (h : IsHeadline old new named report)
     → length report.members ≡ h.job.setup.plan.members
 members_count old new named report h =
-    report_members (rings_of named.command) h.job h.bytes h.ends report h.report_is
+    report_members (rules_for named.command h.job) h.job h.bytes h.ends report h.report_is
 
 run_saves : (command : Command) (held : Option Contents) (setup : Setup) (bytes : List (List ℕ))
     (ends : List CpuEnd)

@@ -18,10 +18,10 @@ use Rattle.run_reports.specs.declared.reports.RunReport.{RunReport}
 use Rattle.setup_text.specs.declared.setups.Setup.{Setup}
 use Rattle.tap_outside.specs.Contents.{Contents}
 use Rattle.tap_outside.specs.Seen.{SinkSeen, StoreSeen}
-use Rattle.tap_engine.specs.Commands.{Named, rings_of}
+use Rattle.tap_engine.specs.Commands.{Named}
 use Rattle.tap_engine.specs.Conclusions.{IsDone, IsFailed, Tells}
 use Rattle.tap_engine.specs.Findings.{IsFound, report_in, status_by_end, status_of, status_of_logs}
-use Rattle.tap_engine.specs.Headline.{AreCaptures, CapturesFor, IsHeadline}
+use Rattle.tap_engine.specs.Headline.{AreCaptures, CapturesFor, IsHeadline, rules_for}
 use Rattle.tap_engine.specs.InnerErrors.{HoldsNoMemory, IsOfCapture, IsOfTexts}
 use Rattle.tap_engine.specs.declared.findings.Finding.{Finding}
 use Rattle.tap_engine.specs.declared.findings.Finding.TheVariants as finding
@@ -85,7 +85,7 @@ report_of_texts : (old new : StoreSeen) (named : Named) (report : RunReport)
     → AllByRecursion (λ log. IsOfCapture log.end) report.cpus
 report_of_texts old new named report h =
     run_ends named.command old.held h.job.setup h.bytes h.ends report.cpus h.captures
-    (report_ends (rings_of named.command) h.job h.bytes h.ends report h.report_is)
+    (report_ends (rules_for named.command h.job) h.job h.bytes h.ends report h.report_is)
 
 -- ---- the status
 

@@ -18,18 +18,20 @@ use Rattle.run_reports.specs.declared.reports.RunReport.{RunReport}
 use Rattle.setup_text.specs.declared.setups.Setup.{Setup}
 use Rattle.tap_outside.specs.Contents.{Contents}
 use Rattle.tap_outside.specs.Seen.{SourceSeen, StoreSeen}
-use Rattle.tap_printing.specs.declared.ring_kind.RingKind.{RingKind}
-use Rattle.tap_printing.specs.declared.ring_kind.RingKind.TheVariants.{Blocks}
+use Rattle.run_reports.specs.declared.ring_kind.RingKind.{RingKind}
+use Rattle.run_reports.specs.declared.ring_kind.RingKind.TheVariants.{Blocks}
 use Rattle.tap_engine.specs.Commands.{Named, has_schedule, is_threaded, rings_of}
 use Rattle.tap_engine.specs.Faults.{IsCounted}
 use Rattle.tap_engine.specs.Findings.{IsReported, IsSmall, faults_in}
 use Rattle.tap_engine.specs.Given.{AreGiven, given_entries, missing_entries}
 use Rattle.tap_engine.specs.Headline.{AreCaptures, CapturesFor, GivenFor, IsCaptureOf, IsReplayOf}
-use Rattle.tap_engine.specs.Headline.{IsReportBy, IsRunOf, replay_by}
+use Rattle.tap_engine.specs.Headline.{IsRunOf, rules_for}
 use Rattle.tap_engine.specs.Jobs.{HasLines, HasTicks, IsRead}
-use Rattle.tap_engine.specs.inside.Replays.{IsReplayedBy}
+use Rattle.replay_machine.specs.Runs.{report_of}
+use Rattle.run_reports.specs.RingRules.{block_rules, rules_by}
+use Rattle.tap_engine.specs.inside.Replays.{IsReplayedBy, IsReportBy}
 use Rattle.tap_engine.specs.inside.Sources.{AreFetched, faulty_in, givens, missing_in}
-use Rattle.tap_engine.proofs.Ends.{as_many_logs, report_ends, report_members, report_short}
+use Rattle.tap_engine.proofs.Ends.{as_many_logs, report_ends, report_members}
 use Rattle.tap_engine.proofs.Counted.{counts_run}
 use Rattle.tap_engine.proofs.Fetched.{bytes_as_many, captures_are, held_same}
 use Rattle.tap_engine.proofs.Given.{run_given}
@@ -57,12 +59,12 @@ pub small_run : (rings : RingKind) (job : Job) (old new : List (Option SourceSee
     → IsReportBy rings job bytes ends report → IsSmall report
 small_run rings job old new bytes ends report sound count gave run =
     let ends_are = (bytes_as_many old new bytes ends gave).1 in
-    let logs = as_many_logs report.cpus ends (report_ends rings job bytes ends report run) in
-    let members = report_members rings job bytes ends report run in
+    let logs = as_many_logs report.cpus ends (report_ends (rules_by rings job.setup.shape) job bytes ends report run) in
+    let members = report_members (rules_by rings job.setup.shape) job bytes ends report run in
     record {
       cpus = let most = sound.few in omega (arith, logs, ends_are, count, most);
       members = let most = few_in_group job.setup sound in omega (arith, members, most);
-      packets = report_short rings job bytes ends report run;
+      packets = run.short;
     }
 
 pub replays : (rings : RingKind) (job : Job) (lines : List Line)
@@ -85,7 +87,7 @@ pub faults_counted : (held : Option Contents) (rings : RingKind) (job : Job)
     → IsCounted a c (faults_in report.cpus)
 faults_counted held rings job old new bytes ends report a b c fetched gave run =
     counts_run held job.setup.cpus old new bytes ends report.cpus a b c fetched gave
-    (report_ends rings job bytes ends report run)
+    (report_ends (rules_by rings job.setup.shape) job bytes ends report run)
 
 reported : (old mid new : StoreSeen) (named : Named) (job : Job) (bytes : List (List ℕ))
     (ends : List CpuEnd) (report : RunReport)
@@ -197,13 +199,14 @@ make_reported old new named job lines olds news report r is captures read lines_
       lines = lines;
       lines_are = lines_are;
       replay = r.replayed.report_is
-          ∙ ap (λ (c : Command). replay_by (rings_of c) job lines r.replayed.bytes r.replayed.ends)
+          ∙ ap (λ (c : Command). report_of (rules_for c job) job lines r.replayed.bytes r.replayed.ends)
           (sym is);
     }))
 
 -- and that of a `capture` or a `forward`
 threaded_worth : (job : Job) (bytes : List (List ℕ)) (ends : List CpuEnd) (report : RunReport)
-    (command : Command) → is_threaded command ≡ true → IsRunReport job bytes ends report
+    (command : Command) → is_threaded command ≡ true
+    → IsRunReport (block_rules job.setup.shape) job bytes ends report
     → IsReportBy (rings_of command) job bytes ends report
 threaded_worth job bytes ends report Capture is run = run
 threaded_worth job bytes ends report Forward is run = run

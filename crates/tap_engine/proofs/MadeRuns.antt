@@ -25,8 +25,8 @@ use Rattle.tap_outside.specs.Contents.{Contents}
 use Rattle.tap_outside.specs.Counts.{Rose}
 use Rattle.tap_outside.specs.Seen.{SourceSeen, StoreSeen, unread_source}
 use Rattle.tap_outside.specs.Sources.{SureSourceState, seen_sure_source, unread_sure_source}
-use Rattle.tap_printing.specs.declared.ring_kind.RingKind.TheVariants.{Blocks}
-use Rattle.tap_replay.specs.Runs.{IsReplayed}
+use Rattle.run_reports.specs.declared.ring_kind.RingKind.TheVariants.{Blocks}
+use Rattle.run_reports.specs.RingRules.{block_rules}
 use Rattle.tap_engine.specs.Commands.{Named}
 use Rattle.tap_engine.specs.Findings.{IsReported, IsSmall, fault_at, faults_in}
 use Rattle.tap_engine.specs.Headline.{AreMade}
@@ -138,18 +138,6 @@ lines_are : (held : Option Contents) (named : Named) (job : Job) (lines : List L
 lines_are held named job lines is same = subst (λ (c : Command). LinesFor c held named job lines)
     (sym is) same
 
--- a replay over rings of blocks
-blocks_replayed : (job : Job) (lines : List Line) (old new : List (Option SourceSeen))
-    (report : RunReport) → IsReplayed job lines old new report
-    → IsReplayedBy Blocks job lines old new report
-blocks_replayed job lines old new report r = record {
-  bytes = r.bytes;
-  ends = r.ends;
-  gave = r.gave;
-  run = r.run;
-  report_is = r.report_is;
-}
-
 -- what the report of a run over made frames is
 pub record IsMadeRun (job : Job) (report : RunReport) : Type 0 where
   pub reported : (old new : StoreSeen) (named : Named) → named.command ≡ Make
@@ -162,14 +150,14 @@ pub made_run : (job : Job) (lines : List Line) (sources left : List (Option Sure
     → IsSetup job.setup → cpus ≡ length job.setup.cpus → members ≡ job.setup.plan.members
     → sources ≡ map sure (made_captures job.setup.seed job.setup.count cpus)
     → lines ≡ made_lines job.setup.count cpus members
-    → IsReplayed job lines (map seen sources) (map seen left) report → IsMadeRun job report
+    → IsReplayedBy Blocks job lines (map seen sources) (map seen left) report → IsMadeRun job report
 made_run job lines sources left cpus members report sound cpus_is members_is sources_are lines_made
     replayed =
     let setup = job.setup in
     let r = replays Blocks job lines (map seen sources) (map seen left) report sound
     (length-map sources seen ∙ count_sources setup.seed setup.count cpus sources sources_are
     ∙ cpus_is)
-    (blocks_replayed job lines (map seen sources) (map seen left) report replayed) in
+    replayed in
     let old_is = ap (λ ss. map seen ss) (sources_are ∙ ap (λ n. map sure (made_captures setup.seed
     setup.count n)) cpus_is) ∙ fresh_sources (texts_of job) in
     let lines_same : lines ≡ lines_of job =
@@ -184,6 +172,6 @@ made_run job lines sources left cpus members report sound cpus_is members_is sou
           read (lines_are old.held named job lines is lines_same);
       faults = no_faults r.replayed.bytes report.cpus
           (subst (λ (es : List CpuEnd). AreEnds report.cpus es) made.whole
-          (report_ends Blocks job r.replayed.bytes r.replayed.ends report r.replayed.run));
+          (report_ends (block_rules job.setup.shape) job r.replayed.bytes r.replayed.ends report r.replayed.run));
       small = r.small;
     }

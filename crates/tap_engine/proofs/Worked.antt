@@ -13,7 +13,7 @@ use Rattle.setup_text.specs.declared.setups.Setup.{Setup}
 use Rattle.tap_outside.specs.Contents.{Contents}
 use Rattle.tap_outside.specs.Seen.{NoReadFailed, OnlyReads, StoreSeen}
 use Rattle.slot_layout.specs.SlotShapes.{IsSlotShape}
-use Rattle.tap_printing.specs.declared.ring_kind.RingKind.TheVariants.{Blocks, Slots}
+use Rattle.run_reports.specs.declared.ring_kind.RingKind.TheVariants.{Blocks, Slots}
 use Rattle.tp_layout.specs.Requests.{slot_fault, transmit_fault}
 use Rattle.tp_layout.specs.declared.requests.RingRequest.{RingRequest}
 use Rattle.tap_engine.specs.Commands.{Named, has_schedule, is_threaded, rings_of, sends}

@@ -4,8 +4,8 @@ use Rattle.std.specs.Prelude.{bytes_eq, ◌==◌, if◌then◌else◌, Option, N
 use Rattle.setup_text.specs.declared.commands.Command.{Command}
 use Rattle.setup_text.specs.declared.commands.Command.TheVariants.{Capture, Check, Forward, Make}
 use Rattle.setup_text.specs.declared.commands.Command.TheVariants.{Replay, Replay2, Send}
-use Rattle.tap_printing.specs.declared.ring_kind.RingKind.{RingKind}
-use Rattle.tap_printing.specs.declared.ring_kind.RingKind.TheVariants.{Blocks, Slots}
+use Rattle.run_reports.specs.declared.ring_kind.RingKind.{RingKind}
+use Rattle.run_reports.specs.declared.ring_kind.RingKind.TheVariants.{Blocks, Slots}
 
 -- a command with the names of its texts; if it has no schedule that name is empty
 pub record Named : Type 0 where

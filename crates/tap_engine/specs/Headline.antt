@@ -18,12 +18,8 @@ use Rattle.tap_outside.specs.Contents.{Contents}
 use Rattle.tap_outside.specs.Seen.{StoreSeen}
 use Rattle.tap_reading.specs.Fronts.{IsAllOf, IsFrontOf}
 use Rattle.run_reports.specs.Reports.{IsRunReport}
-use Rattle.tap_printing.specs.declared.ring_kind.RingKind.{RingKind}
-use Rattle.tap_printing.specs.declared.ring_kind.RingKind.TheVariants.{Blocks, Slots}
-use Rattle.tap_replay.specs.Runs.{report_of}
-use Rattle.tp_layout.specs.declared.requests.RingRequest.{RingRequest}
-use Rattle.v2_replay.specs.SlotReports.{IsSlotRunReport}
-use Rattle.v2_replay.specs.SlotRuns.{slot_report_of}
+use Rattle.run_reports.specs.RingRules.{RingRules, rules_by}
+use Rattle.replay_machine.specs.Runs.{report_of}
 use Rattle.capture_reading.specs.Sources.{EndsAtDamage, UnlessFault, WhereEnded, WhereFault, end_by}
 use Rattle.tap_engine.specs.Commands.{Named, rings_of}
 use Rattle.tap_engine.specs.Given.{AreGiven, ReadTexts, all_texts}
@@ -75,27 +71,16 @@ GivenFor Capture before after bytes = AreGiven before after bytes
 GivenFor Forward before after bytes = AreGiven before after bytes
 GivenFor Send before after bytes = ⊥
 
--- what holds of every report of a run, whatever its command, by what its rings are made of
-abbrev pub IsReportBy : RingKind → Job → List (List ℕ) → List CpuEnd → RunReport → Type 0
-IsReportBy Blocks job bytes ends report = IsRunReport job bytes ends report
-IsReportBy Slots job bytes ends report = IsSlotRunReport job bytes ends report
-
--- how many places each ring has
-abbrev pub places_by : RingKind → RingRequest → ℕ
-places_by Blocks shape = shape.block_nr
-places_by Slots shape = shape.frame_nr
-
--- the replay report of these lines, and of what the captures gave
-abbrev pub replay_by : RingKind → Job → List Line → List (List ℕ) → List CpuEnd → RunReport
-replay_by Blocks job lines bytes ends = report_of job lines bytes ends
-replay_by Slots job lines bytes ends = slot_report_of job lines bytes ends
+-- the rules of the rings of a command's members
+abbrev pub rules_for : Command → Job → RingRules
+rules_for command job = rules_by (rings_of command) job.setup.shape
 
 -- the report is that of the command's lines
 pub record IsReplayOf (held : Option Contents) (named : Named) (job : Job) (bytes : List (List ℕ))
     (ends : List CpuEnd) (report : RunReport) : Type 0 where
   pub lines : List Line
   pub lines_are : HasLines held named job lines
-  pub replay : report ≡ replay_by (rings_of named.command) job lines bytes ends
+  pub replay : report ≡ report_of (rules_for named.command job) job lines bytes ends
 
 -- the moments that the setup names were reported to the members, each once and in order, and the
 -- report holds their finished rings
@@ -133,7 +118,7 @@ pub record IsHeadline (old new : StoreSeen) (named : Named) (report : RunReport)
   pub given : GivenFor named.command read.closed new.closed bytes
   -- what holds of every report: its logs, its members, and that each arrival that passes appears
   -- once
-  pub report_is : IsReportBy (rings_of named.command) job bytes ends report
+  pub report_is : IsRunReport (rules_for named.command job) job bytes ends report
   -- what the command adds
   pub run : IsRunOf named.command old.held named job bytes ends report
 

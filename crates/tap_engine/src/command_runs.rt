@@ -19,13 +19,12 @@ use crate::sent_captures::{Sending, send_capture};
 use crate::threaded_runs::{ThreadedRun, run_timed};
 use cpu_feeders::Gate;
 use frame_view::Memory;
-use run_reports::RunReport;
+use run_reports::{RingKind, RunReport};
 use setup_text::{Command, Job, Setup};
 use std::alloc::Global;
 use std::sync::Wait;
 use std::thread::Threads;
 use tap_outside::{Store, Word};
-use tap_printing::RingKind;
 use tap_reading::Stop;
 
 /// Finds what the words ask for, on threads if they are `capture CONF` or `forward CONF`. The store

@@ -3,9 +3,9 @@ ghost use Rattle.std.specs.Prelude.{◌≡◌, [], ◌∷◌, false, option_map,
 ghost use Rattle.tap_engine.specs.Commands.{command_of, is_threaded, lone_command, named_by};
 ghost use Rattle.tap_engine.specs.Commands.{plain_command, rings_of, scheduled_command, sends};
 
+use run_reports::RingKind;
 use setup_text::Command;
 use tap_outside::Word;
-use tap_printing::RingKind;
 
 /// A command with the names of its texts.
 #[derive(Clone, Copy)]

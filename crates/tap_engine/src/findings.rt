@@ -8,10 +8,10 @@ use crate::sent_captures::Sending;
 use capture_file::CpuEnd;
 use fanout_group::CpuLog;
 use frame_view::{ByteList, Memory};
-use run_reports::{Forwards, RunReport};
+use run_reports::{Forwards, RingKind, RunReport};
 use setup_text::{Setup, SetupError, TextError};
 use std::alloc::Global;
-use tap_printing::{RingKind, send_lines, setup_refusal, summary, text_refusal};
+use tap_printing::{send_lines, setup_refusal, summary, text_refusal};
 
 /// What a command finds, from what the outside gives.
 #[derive(Drop)]

@@ -6,11 +6,10 @@ ghost use Rattle.run_reports.specs.Members.{DropsNoneBelow};
 ghost use Rattle.run_reports.specs.Once.{EachArrivalAppearsOnce};
 ghost use Rattle.run_reports.specs.Reports.{logged, notes_of};
 ghost use Rattle.tap_outside.specs.Seen.{StoreSeen};
-ghost use Rattle.tap_engine.specs.Commands.{Named, rings_of};
-ghost use Rattle.tap_engine.specs.Headline.{IsHeadline, places_by};
+ghost use Rattle.tap_engine.specs.Commands.{Named};
+ghost use Rattle.tap_engine.specs.Headline.{IsHeadline, rules_for};
 
-use run_reports::{RunReport, a_member_with_blocks_left_dropped_nothing};
-use v2_replay::a_member_with_slots_left_dropped_nothing;
+use run_reports::{RunReport, a_member_with_places_left_dropped_nothing};
 
 /// In a report that fulfils the headline each arrival whose verdict isn't 0 appears once among what
 /// the members kept and dropped, and nothing else appears there. The call does nothing; its
@@ -31,10 +30,9 @@ pub fn each_frame_of_a_run_appears_exactly_once(report: &RunReport)
 pub fn a_ring_that_is_not_filled_dropped_nothing(report: &RunReport)
     ensures { (old new : StoreSeen) (named : Named)
         (headline : IsHeadline old new named report.now) →
-        All (DropsNoneBelow (places_by (rings_of named.command) headline.job.setup.shape))
+        All (DropsNoneBelow (rules_for named.command headline.job).places)
         report.now.members }
 {
     let _ = report;
-    a_member_with_blocks_left_dropped_nothing();
-    a_member_with_slots_left_dropped_nothing();
+    a_member_with_places_left_dropped_nothing();
 }

@@ -12,18 +12,18 @@ ghost use Rattle.tap_engine.specs.Commands.{Named, has_schedule};
 ghost use Rattle.tap_engine.specs.Faults.{IsCounted};
 ghost use Rattle.tap_engine.specs.Findings.{IsReported, IsSmall, faults_in};
 ghost use Rattle.tap_engine.specs.Jobs.{HasLines, IsLoaded, IsRead, Stops};
-ghost use Rattle.tap_engine.specs.inside.Replays.{IsReplayedBy};
+ghost use Rattle.replay_machine.specs.Runs.{IsReplayed};
+ghost use Rattle.run_reports.specs.RingRules.{rules_by};
 
 use crate::commands::rings_of;
 use crate::jobs::load_lines;
 use crate::sources::{close_captures, fetch_captures};
 use frame_view::Memory;
 use made_captures::{made_schedule, made_sources};
-use run_reports::{Ran, RunReport};
+use run_reports::{Ran, RingKind, RunReport};
 use setup_text::{Command, Job, Schedule};
 use std::alloc::Global;
 use tap_outside::{Source, Store};
-use tap_printing::RingKind;
 use tap_reading::Stop;
 use tap_replay::replay;
 use v2_replay::replay_v2;
@@ -102,7 +102,8 @@ fn replay_over<I: Source>(
     requires sources { length sources.items ≡ length job.now.setup.cpus }
     requires schedule { IsSchedule schedule.now }
     requires few { length schedule.now < 2 ^ 32 }
-    ensures ran { IfOk result (λ ran. IsReplayedBy rings job.now schedule.now
+    ensures ran { IfOk result (λ ran. IsReplayed (rules_by rings job.now.setup.shape)
+        job.now schedule.now
         (map (option_map I.seen) sources.items)
         (map (option_map I.seen) ran.sources.items)
         ran.report) }

@@ -10,8 +10,8 @@ use Rattle.slot_layout.specs.SlotFates.{without_freezes}
 use Rattle.slot_layout.specs.SlotSteps.{first_slot_state}
 use Rattle.slot_layout.proofs.Counts.{counts_alike, stretches_alike, sums_alike}
 use Rattle.tap_printing.specs.Statistics.{counts_by, seen_by, totals_by}
-use Rattle.tap_printing.specs.declared.ring_kind.RingKind.{RingKind}
-use Rattle.tap_printing.specs.declared.ring_kind.RingKind.TheVariants.{Blocks, Slots}
+use Rattle.run_reports.specs.declared.ring_kind.RingKind.{RingKind}
+use Rattle.run_reports.specs.declared.ring_kind.RingKind.TheVariants.{Blocks, Slots}
 
 pub totals_seen : (kind : RingKind) (size : Size) (notes : List Note)
     → seen_by kind (totals_of size notes) ≡ totals_by kind size notes

@@ -20,7 +20,7 @@ use Rattle.run_reports.specs.declared.reports.RunReport.{RunReport}
 -- the sums are those that add up by a law of reports
 pub use Rattle.run_reports.specs.Totals.{arrivals_in, drops_in, filtered_in, kept_in}
 use Rattle.tap_printing.specs.Statistics.{counts_by, totals_by}
-use Rattle.tap_printing.specs.declared.ring_kind.RingKind.{RingKind}
+use Rattle.run_reports.specs.declared.ring_kind.RingKind.{RingKind}
 
 -- what is wrong with a capture, and its place in bytes; for a capture that is too large, the most
 -- that it may have

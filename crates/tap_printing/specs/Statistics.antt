@@ -5,8 +5,8 @@ use Rattle.ring_model.specs.Ring.{Size}
 use Rattle.ring_model.specs.declared.notes.Note.{Note}
 use Rattle.ring_model.specs.declared.notes.Stats.{Stats}
 use Rattle.slot_layout.specs.SlotFates.{slot_counts_of, slot_totals_of, without_freezes}
-use Rattle.tap_printing.specs.declared.ring_kind.RingKind.{RingKind}
-use Rattle.tap_printing.specs.declared.ring_kind.RingKind.TheVariants.{Blocks, Slots}
+use Rattle.run_reports.specs.declared.ring_kind.RingKind.{RingKind}
+use Rattle.run_reports.specs.declared.ring_kind.RingKind.TheVariants.{Blocks, Slots}
 
 -- the statistics that each Counted note took, in order
 unfoldable pub counts_by : RingKind → Size → List Note → List Stats

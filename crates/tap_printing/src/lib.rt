@@ -3,14 +3,13 @@
 #![tactic(auto)]
 
 mod cpu_lines;
+mod kind_stats;
 mod lines;
 mod member_lines;
 mod refusals;
-mod ring_kind;
 mod sent_lines;
 mod summaries;
 
 pub use refusals::{setup_refusal, text_refusal};
-pub use ring_kind::RingKind;
 pub use sent_lines::send_lines;
 pub use summaries::summary;

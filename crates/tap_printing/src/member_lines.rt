@@ -7,11 +7,11 @@ ghost use Rattle.tap_printing.specs.Lines.{kept_in, lines_at, member_line, membe
 ghost use Rattle.tap_printing.specs.Lines.{member_text, stats_text};
 ghost use Rattle.tap_printing.specs.Statistics.{seen_by, totals_by};
 
+use crate::kind_stats::seen;
 use crate::lines::push_line;
-use crate::ring_kind::RingKind;
 use frame_view::Memory;
 use ring_model::{Stats, Tally, tally_notes};
-use run_reports::{Forwards, MemberReport};
+use run_reports::{Forwards, MemberReport, RingKind};
 use std::alloc::Global;
 
 /// Numbers of packets over several members.
@@ -103,7 +103,7 @@ fn push_member(
     ensures fewer { IfOk result (λ stats. stats.drops ≤ stats.packets) }
 {
     let tally = tally_notes(alloc, tov, &report.notes)?;
-    let totals = kind.seen(tally.totals);
+    let totals = seen(kind, tally.totals);
     push_line(text, member_line(alloc, member, totals, report.blocks)?)?;
     push_counts(alloc, text, kind, member, tally.counts.as_slice())?;
     Ok(totals)
@@ -151,7 +151,7 @@ fn push_counts(
         ++ flat_map (λ stats. count_line member (seen_by kind stats)) counts.now) }
 {
     for stats in counts {
-        push_line(text, count_line(alloc, member, kind.seen(*stats))?)?;
+        push_line(text, count_line(alloc, member, seen(kind, *stats))?)?;
     }
     Ok(())
 }

@@ -6,9 +6,8 @@ ghost use Rattle.tap_printing.specs.Lines.{summary_of, total_line};
 use crate::cpu_lines::{arrivals_in, filtered_in, push_cpus};
 use crate::lines::push_line;
 use crate::member_lines::{Passed, push_members};
-use crate::ring_kind::RingKind;
 use frame_view::{ByteList, Memory};
-use run_reports::{Forwards, RunReport};
+use run_reports::{Forwards, RingKind, RunReport};
 use std::alloc::Global;
 
 /// The lines of a run, each ended by a line feed: those of the CPUs from 0 up, those of the

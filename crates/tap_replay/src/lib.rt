@@ -4,4 +4,4 @@
 
 mod runs;
 
-pub use runs::{a_job_reports_a_group, replay};
+pub use runs::replay;

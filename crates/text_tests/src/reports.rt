@@ -3,9 +3,9 @@ use capture_file::CpuEnd;
 use fanout_group::{ArrivalList, ArrivalLog, CpuLog, CpuLogList, TryList};
 use frame_view::{ByteList, Frame, ItemList, Memory, Packet, Packets};
 use ring_model::{Found, Note, Notes, Offer};
-use run_reports::{Forwards, MemberList, MemberReport, RunReport};
+use run_reports::{Forwards, MemberList, MemberReport, RingKind, RunReport};
 use std::alloc::Global;
-use tap_printing::{RingKind, summary};
+use tap_printing::summary;
 
 /// The log of a CPU: the number of frames, the verdicts of the arrivals, and the end.
 pub(crate) type Cpu<'a> = (u32, &'a [u32], CpuEnd);

@@ -2,8 +2,6 @@
 //! from which its reader reads it.
 #![tactic(auto)]
 
-mod laws;
 mod runs;
 
-pub use laws::{a_member_with_slots_left_dropped_nothing, the_totals_over_slots_add_up};
-pub use runs::{a_job_over_slots_reports_a_group, replay_v2};
+pub use runs::replay_v2;

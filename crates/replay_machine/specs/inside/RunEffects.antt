@@ -8,7 +8,7 @@ use Rattle.receive_ring.specs.Replay.{Replay, cpu_at, done_line, feed_from, feed
 use Rattle.receive_ring.specs.Replay.{noted_at}
 use Rattle.setup_text.specs.declared.lines.Line.{Line}
 use Rattle.setup_text.specs.declared.lines.Line.TheVariants as line
-use Rattle.receive_ring.specs.RingSteps.{RingSteps, read_by, ticked}
+use Rattle.run_reports.specs.RingSteps.{RingSteps, read_by, ticked}
 use Rattle.ring_model.specs.Rings.{Ring, fresh}
 use Rattle.ring_model.specs.declared.notes.Note.TheVariants.{Counted}
 use Rattle.setup_text.specs.declared.jobs.Job.{Job}

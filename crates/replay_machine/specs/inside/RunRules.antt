@@ -4,7 +4,7 @@ use Rattle.fanout_group.specs.Judgements.{AgreesAt}
 use Rattle.fanout_group.specs.Lenses.{lens_of as lens_in}
 use Rattle.fanout_group.specs.declared.judgements.ArrivalRules.{ArrivalRules}
 use Rattle.replay_machine.specs.RunStates.{IsRun, RunValue}
-use Rattle.receive_ring.specs.RingSteps.{RingSteps}
+use Rattle.run_reports.specs.RingSteps.{RingSteps}
 use Rattle.run_reports.specs.Jobs.{lens_of}
 use Rattle.setup_text.specs.declared.jobs.Job.{Job}
 

@@ -1,7 +1,7 @@
 -- What a command does on one thread, as a finding.
 use Rattle.std.specs.Prelude.{None}
 use Rattle.setup_text.specs.declared.setups.Setup.{Setup}
-use Rattle.tap_printing.specs.declared.ring_kind.RingKind.{RingKind}
+use Rattle.run_reports.specs.declared.ring_kind.RingKind.{RingKind}
 use Rattle.tap_engine.specs.declared.findings.Finding.{Finding}
 use Rattle.tap_engine.specs.declared.findings.Finding.TheVariants as finding
 use Rattle.tap_engine.specs.declared.command_runs.Done.{Done}

@@ -1,20 +1,22 @@
--- The replay of a job over the rings of a command.
-use Rattle.std.specs.Prelude.{◌≡◌, ℕ, List, Option}
+-- Reports over the rings of a kind.
+use Rattle.std.specs.Prelude.{ℕ, List, Option}
 use Rattle.capture_file.specs.declared.cpu_end.CpuEnd.{CpuEnd}
-use Rattle.capture_reading.specs.Sources.{AllGave}
-use Rattle.setup_text.specs.declared.lines.Line.{Line}
-use Rattle.setup_text.specs.declared.jobs.Job.{Job}
+use Rattle.replay_machine.specs.Runs.{IsReplayed}
+use Rattle.run_reports.specs.Reports.{IsRunReport}
+use Rattle.run_reports.specs.RingRules.{rules_by}
 use Rattle.run_reports.specs.declared.reports.RunReport.{RunReport}
+use Rattle.run_reports.specs.declared.ring_kind.RingKind.{RingKind}
+use Rattle.setup_text.specs.declared.jobs.Job.{Job}
+use Rattle.setup_text.specs.declared.lines.Line.{Line}
 use Rattle.tap_outside.specs.Seen.{SourceSeen}
-use Rattle.tap_printing.specs.declared.ring_kind.RingKind.{RingKind}
-use Rattle.tap_engine.specs.Headline.{IsReportBy, replay_by}
 
--- the job was replayed by these lines over such rings: its sources gave these bytes and ended in
--- this way, the report is that of a run over them, and it is the replay report
-pub record IsReplayedBy (rings : RingKind) (job : Job) (lines : List Line)
-    (old new : List (Option SourceSeen)) (report : RunReport) : Type 0 where
-  pub bytes : List (List ℕ)
-  pub ends : List CpuEnd
-  pub gave : AllGave old new bytes ends
-  pub run : IsReportBy rings job bytes ends report
-  pub report_is : report ≡ replay_by rings job lines bytes ends
+-- the report is that of a run of the job over such rings
+abbrev pub IsReportBy : RingKind → Job → List (List ℕ) → List CpuEnd → RunReport → Type 0
+IsReportBy kind job bytes ends report =
+    IsRunReport (rules_by kind job.setup.shape) job bytes ends report
+
+-- the job was replayed by these lines over such rings
+abbrev pub IsReplayedBy : RingKind → Job → List Line → List (Option SourceSeen)
+    → List (Option SourceSeen) → RunReport → Type 0
+IsReplayedBy kind job lines old new report =
+    IsReplayed (rules_by kind job.setup.shape) job lines old new report

@@ -1,6 +1,6 @@
 use Rattle.replay_laws.proofs.LargerSteps.{blocks_agree, never_froze, slots_agree}
-use Rattle.receive_ring.specs.RingSteps.{block_steps}
-use Rattle.receive_ring.specs.SlotRings.{slot_steps}
+use Rattle.run_reports.specs.RingSteps.{block_steps}
+use Rattle.run_reports.specs.RingSteps.{slot_steps}
 use Rattle.replay_laws.proofs.laws.a_ring_that_never_froze_is_as_good_as_a_larger_one.Goals as goal
 
 pub returns : goal.returns

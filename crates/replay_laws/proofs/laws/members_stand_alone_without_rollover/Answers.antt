@@ -1,5 +1,5 @@
 use Rattle.std.proofs.Common.{◌∙◌}
-use Rattle.receive_ring.specs.RingSteps.{block_steps}
+use Rattle.run_reports.specs.RingSteps.{block_steps}
 use Rattle.replay_laws.specs.Alone.{dealt}
 use Rattle.replay_laws.proofs.Alone.{all_as_blocks, stands_alone}
 use Rattle.replay_laws.proofs.laws.members_stand_alone_without_rollover.Goals as goal

@@ -2,4 +2,4 @@ use Rattle.run_reports.proofs.Shorts.{are_short}
 use Rattle.run_reports.proofs.laws.a_group_s_packets_are_short.Goals as goal
 
 pub returns : goal.returns
-returns c = λ job arriving report group. are_short job arriving report group
+returns c = are_short

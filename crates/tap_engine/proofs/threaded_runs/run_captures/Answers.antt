@@ -1,7 +1,7 @@
 use Rattle.std.proofs.Common.{map, sym, ◌∙◌}
 use Rattle.std.specs.Prelude.{option_map}
 use Rattle.std.proofs.lemmas.List.{length-map}
-use Rattle.tap_printing.specs.declared.ring_kind.RingKind.TheVariants.{Blocks}
+use Rattle.run_reports.specs.declared.ring_kind.RingKind.TheVariants.{Blocks}
 use Rattle.tap_engine.proofs.Fetched.{as_many}
 use Rattle.tap_engine.proofs.Forwarded.{sends_short}
 use Rattle.tap_engine.proofs.Made.{faults_counted, small_run, threaded_reported}

@@ -1,6 +1,6 @@
 use Rattle.std.proofs.Common.{◌≡◌}
 use Rattle.receive_ring.specs.Rings.{ring_in}
-use Rattle.receive_ring.specs.RingSteps.{ticked}
+use Rattle.run_reports.specs.RingSteps.{ticked}
 use Rattle.replay_machine.specs.inside.Members.{Parts}
 use Rattle.replay_machine.proofs.MemberSteps.{came_to, either, in_ok, may_be, stays_member, ticked_member}
 use Rattle.replay_machine.proofs.member.Member.tick.Goals as goal

@@ -1,6 +1,6 @@
 use Rattle.std.proofs.Common.{◌≡◌}
 use Rattle.receive_ring.specs.Rings.{note_of_try}
-use Rattle.receive_ring.specs.RingSteps.{try_note}
+use Rattle.run_reports.specs.RingSteps.{try_note}
 use Rattle.ring_model.specs.Rings.{noted}
 use Rattle.replay_machine.specs.inside.Members.{Parts}
 use Rattle.replay_machine.proofs.MemberSteps.{came_to, either, in_ok, may_be, noted_member, stays_member, takes_it}

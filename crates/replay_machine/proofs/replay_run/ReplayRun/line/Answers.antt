@@ -1,7 +1,7 @@
 use Rattle.std.proofs.Common.{◌^◌, ◌<◌, List, length, map, rules, subst, sym}
 use Rattle.std.specs.Prelude.{All, slice_index_or, slice_set}
 use Rattle.receive_ring.specs.Replay.{no_ring, noted_at}
-use Rattle.receive_ring.specs.RingSteps.{read_by, ticked}
+use Rattle.run_reports.specs.RingSteps.{read_by, ticked}
 use Rattle.ring_model.specs.Rings.{Ring}
 use Rattle.ring_model.specs.declared.notes.Note.TheVariants.{Counted}
 use Rattle.replay_machine.specs.RunStates.{RunValue}

@@ -1,6 +1,6 @@
 use Rattle.std.proofs.Common.{◌≡◌, ◌∙◌, ◌<◌, ◌≤◌, ap, get_or, length, length-set, rules, subst, sym}
 use Rattle.std.specs.Prelude.{All}
-use Rattle.receive_ring.specs.RingSteps.{ticked as ticked_ring}
+use Rattle.run_reports.specs.RingSteps.{ticked as ticked_ring}
 use Rattle.ring_model.specs.Rings.{Ring}
 use Rattle.ring_model.specs.Unreleased.{last_moment}
 use Rattle.replay_machine.proofs.Clocks.{not_yet, one_more}

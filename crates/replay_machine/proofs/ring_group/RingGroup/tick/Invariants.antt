@@ -1,6 +1,6 @@
 use Rattle.std.proofs.Common.{◌≡◌, ◌++◌, length, take, drop}
 use Rattle.std.specs.Prelude.{map}
-use Rattle.receive_ring.specs.RingSteps.{ticked}
+use Rattle.run_reports.specs.RingSteps.{ticked}
 use Rattle.replay_machine.proofs.ring_group.RingGroup.tick.Given as goal
 
 abbrev pub invariant-loop-member : goal.invariant-loop-member

@@ -1,5 +1,5 @@
 use Rattle.std.proofs.Common.{◌≡◌, ap}
-use Rattle.receive_ring.specs.RingSteps.{try_note}
+use Rattle.run_reports.specs.RingSteps.{try_note}
 use Rattle.ring_model.specs.Rings.{Ring}
 use Rattle.replay_machine.proofs.MemberSteps.{either}
 use Rattle.replay_machine.proofs.RingGroups.{may_note, room_told, takes_the_same, told_try, told_none}

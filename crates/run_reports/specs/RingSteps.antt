@@ -10,6 +10,10 @@ use Rattle.ring_model.specs.declared.notes.Found.TheVariants.{NotAsked}
 use Rattle.ring_model.specs.declared.notes.Note.{Note}
 use Rattle.ring_model.specs.declared.notes.Note.TheVariants.{Ticked}
 use Rattle.ring_model.specs.declared.notes.Offer.{Offer}
+use Rattle.run_reports.specs.declared.ring_kind.RingKind.{RingKind}
+use Rattle.run_reports.specs.declared.ring_kind.RingKind.TheVariants.{Blocks, Slots}
+use Rattle.slot_layout.specs.SlotReleases.{slot_look}
+use Rattle.slot_layout.specs.SlotRings.{slot_state}
 
 pub record RingSteps : Type 0 where
   -- the size of each ring
@@ -57,3 +61,17 @@ block_steps size = record {
   ticks = λ ring ms. Some (found_in (note_of_tick ring ms));
   retired = λ ring. length (state ring).done;
 }
+
+-- what rings of slots of this size do: a ring of slots has no timer
+abbrev pub slot_steps : Size → RingSteps
+slot_steps size = record {
+  size = size;
+  finds = λ ring offer. slot_look ring.size.blocks ring.released (slot_state ring);
+  ticks = λ ring ms. None;
+  retired = λ ring. length (slot_state ring).done;
+}
+
+-- what rings of a kind and of this size do
+abbrev pub steps_by : RingKind → Size → RingSteps
+steps_by Blocks size = block_steps size
+steps_by Slots size = slot_steps size

@@ -3,8 +3,8 @@ use Rattle.std.proofs.Common.{◌≡◌, ℕ, ◌+◌, ◌≤◌, Bool, true, fa
 use Rattle.std.specs.Prelude.{nat_lt}
 use Rattle.receive_ring.proofs.KeptOpen.{KeepOpen}
 use Rattle.receive_ring.proofs.Rings.{releases_later, releases_more}
-use Rattle.receive_ring.specs.Reports.{AreReleases}
-use Rattle.receive_ring.specs.RingSteps.{put_note, read_by, try_note}
+use Rattle.receive_ring.specs.Reports.{AreReleases, IsRingReport}
+use Rattle.run_reports.specs.RingSteps.{put_note, read_by, slot_steps, try_note}
 use Rattle.ring_model.specs.Ring.{Size}
 use Rattle.ring_model.specs.Rings.{Ring, noted}
 use Rattle.ring_model.specs.Unreleased.{IsUnreleased}
@@ -15,8 +15,8 @@ use Rattle.slot_layout.proofs.Looks.{slot_put_may_follow, slot_put_unreleased, s
 use Rattle.slot_layout.proofs.Runs.{slot_goes_put, slot_goes_try, slot_run_closed, slot_run_push}
 use Rattle.slot_layout.specs.SlotRings.{slot_state}
 use Rattle.slot_layout.specs.SlotSteps.{IsOpenSlotRun, IsWholeSlotRun, SlotGoesOn, SlotMayFollow, first_slot_state}
-use Rattle.receive_ring.specs.SlotRings.{slot_steps}
-use Rattle.v2_replay.specs.SlotReports.{IsSlotRingReport}
+use Rattle.run_reports.specs.RingRules.{IsWholeBy}
+use Rattle.run_reports.specs.declared.ring_kind.RingKind.TheVariants.{Slots}
 
 -- a ring of this size that isn't closed; it has no clock
 pub record IsOpenSlots (size : Size) (clock : ℕ) (ring : Ring) : Type 0 where
@@ -83,7 +83,7 @@ slots_keep size = record {
 
 -- the last note closes it
 pub closed_slots : (size : Size) (clock : ℕ) (ring : Ring) → IsOpenSlots size clock ring
-    → IsSlotRingReport size (noted ring Finished)
+    → IsRingReport size (IsWholeBy Slots size) (noted ring Finished)
 closed_slots size clock ring h = record {
   size_is = h.size_is;
   run = subst (λ (s : Size). IsWholeSlotRun s.blocks (ring.notes ++ Finished ∷ [])) h.size_is

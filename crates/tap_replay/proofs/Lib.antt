@@ -1,3 +1,0 @@
-mod GroupLaw
-mod ReadBack
-mod Replayed

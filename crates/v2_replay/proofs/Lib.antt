@@ -1,5 +1,0 @@
-mod SlotRings
-mod SlotGroup
-mod SlotsReadBack
-mod SlotReplayed
-mod SlotTotals

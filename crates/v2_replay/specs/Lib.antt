@@ -1,3 +1,0 @@
-pub mod SlotReplays
-pub mod SlotReports
-pub mod SlotRuns
