@@ -199,6 +199,13 @@ filling() {
     cmp -s "$said" "$room/whole.txt" || wrong "a limit for files: printed '$(cat "$said")'"
     [ "$(stat -c %s out.0.pcap)" -eq 1024 ] || wrong "a limit of 1024 bytes for a file: there are $(stat -c %s out.0.pcap)"
     cut_off 'a limit for files' out.0.pcap
+    # Where nobody ignores the system's signal it ends the program, as the shell's own status says.
+    fresh
+    (
+        ulimit -c 0 -f 1
+        in_time "${as_nobody[@]}" "$room/ringtap" replay conf sched >"$said" 2>"$room/complained"
+    ) 2>/dev/null
+    check 'a limit of 1024 bytes for a file, with its signal' $((128 + $(kill -l XFSZ))) $?
     fresh
     mkdir small
     if mount -t tmpfs -o size=4k,mode=777 none small 2>/dev/null; then
@@ -212,17 +219,33 @@ filling() {
     fi
 }
 
-# Reads and writes that a signal interrupts, and writes that take half: the run is as without them.
+# Calls that signals interrupt, and writes that take half: after 15 interruptions in a row of each the run is as without them, and
+# where they don't end the call is a fault.
 interrupted() {
     if ! cc -shared -fPIC -o "$room/interrupt.so" "$top/checks/interrupt.c" -ldl 2>/dev/null; then
         echo "skipped: the interrupted calls of ${0##*/} need a C compiler"
         return
     fi
     fresh
-    in_time env LD_PRELOAD="$room/interrupt.so" "$room/ringtap" replay conf sched >"$said" 2>"$room/complained"
-    check 'interrupted calls' 0 $?
+    interrupt 'interrupted calls' 0 OPENS=15 READS=15 WRITES=15
     cmp -s "$said" "$room/whole.txt" || wrong "interrupted calls: printed '$(cat "$said")'"
     saved 'interrupted calls'
+    fresh
+    interrupt 'reads that are interrupted without end' 5 READS=1000000
+    [ "$(cat "$said")" = 'read fault' ] || wrong "reads that are interrupted without end: printed '$(cat "$said")'"
+    fresh
+    echo before >out.0.pcap
+    interrupt 'writes that are interrupted without end' 6 WRITES=1000000
+    [ ! -s "$said" ] || wrong "writes that are interrupted without end: printed '$(cat "$said")'"
+    [ ! -s out.0.pcap ] || wrong 'writes that are interrupted without end: the output has bytes'
+}
+
+# Runs the program with its calls interrupted as these settings say, and compares its status.
+interrupt() {
+    local what=$1 wanted=$2
+    shift 2
+    in_time env LD_PRELOAD="$room/interrupt.so" "$@" "$room/ringtap" replay conf sched >"$said" 2>"$room/complained"
+    check "$what" "$wanted" $?
 }
 
 # Of the statuses 6, 5 and 4 the first that applies comes.

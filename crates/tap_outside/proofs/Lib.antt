@@ -3,3 +3,4 @@ pub mod Fronts
 pub mod Kept
 mod FileLists
 mod Writes
+mod Tries

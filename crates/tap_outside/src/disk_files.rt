@@ -1,25 +1,25 @@
 //! Real files. Only the system knows what they hold, so contracts say nothing about their content.
-ghost use Rattle.std.specs.Prelude.{◌≡◌, refl, [], map, None, IfOk};
-ghost use Rattle.std.specs.Io.{ReadsAtMost};
+ghost use Rattle.std.specs.Prelude.{◌≡◌, ◌≤◌, refl, [], map, None, IfOk, OnOk};
+ghost use Rattle.tap_outside.specs.Counts.{counted};
+ghost use Rattle.tap_outside.specs.Outcomes.{OnFailed, OnMemory};
 ghost use Rattle.tap_outside.specs.Seen.{meant_store, unread_file};
 ghost use Rattle.tap_outside.specs.Records.{given_by};
 
-use crate::pieces::PIECE;
-use crate::{Failed, History, OutError, Pieces, Source, Store};
+use crate::pieces::{PIECE, write_each};
+use crate::system_calls::read_front;
+use crate::written_file::WrittenFile;
+use crate::{Failed, History, OutError, Pieces, Source, Store, write_whole};
 use std::alloc::Global;
+use std::fs;
 use std::fs::OpenFile;
-use std::io::{ErrorKind, Read, Write};
+use std::io::Read;
 use std::marker::Model;
 use std::rt::Files;
-use std::{fs, io};
 
-/// How often a read or a write is tried if a signal interrupts it.
-pub(crate) const TRIES: u32 = 16;
-
-/// A real file, open for reading. Contracts see the bytes that its reads gave, and how many reads
-/// failed.
+/// A real file, open for reading. Contracts see the bytes that its reads gave, how many reads
+/// failed, and what the file tells of the bytes that it has left: one of the system tells nothing.
 #[derive(Drop)]
-pub struct DiskSource<F> {
+pub struct DiskSource<F: Read> {
     /// The file, open; it is closed when the source is dropped.
     file: F,
     /// What a read takes from the system, before it goes to the caller.
@@ -30,17 +30,19 @@ pub struct DiskSource<F> {
     faults: u64,
 }
 
-impl<F> Model for DiskSource<F> {
-    ghost use Rattle.std.specs.Prelude.{None};
+impl<F: Read> Model for DiskSource<F> {
+    ghost use Rattle.std.specs.Prelude.{◌<◌, length};
     ghost use Rattle.tap_outside.specs.Seen.{SourceSeen};
 
     ghost Value = { SourceSeen };
 
     ghost view = { λ source. record {
-      left = None;
+      left = F.remaining source.file;
       given = source.given.items;
       faults = source.faults;
     } };
+
+    ghost invariant = { λ source. 0 < length source.buffer.items };
 }
 
 impl<F: Read + Drop> Source for DiskSource<F> {
@@ -49,11 +51,10 @@ impl<F: Read + Drop> Source for DiskSource<F> {
     /// A read that a signal interrupts is tried again, 16 times at most. Every other error is a
     /// fault.
     fn read(&mut self, into: &mut [u8]) -> Result<usize, Failed> {
-        let room = into.len().min(self.buffer.len());
-        let window = &mut self.buffer[..room];
-        match read_some(&mut self.file, window) {
+        let most = into.len().min(self.buffer.len());
+        match read_front(&mut self.file, &mut self.buffer, most) {
             Ok(count) => {
-                let (piece, _) = window.split_at(count);
+                let (piece, _) = self.buffer.split_at(count);
                 into[..count].copy_from_slice(piece);
                 self.given.extend(piece);
                 Ok(count)
@@ -64,19 +65,6 @@ impl<F: Read + Drop> Source for DiskSource<F> {
             }
         }
     }
-}
-
-/// One read, tried again if a signal interrupts it.
-fn read_some<F: Read>(file: &mut F, into: &mut [u8]) -> io::Result<usize>
-    ensures { ReadsAtMost result into.new }
-{
-    for _ in 1..TRIES {
-        match file.read(into) {
-            Err(error) if error.kind() == ErrorKind::Interrupted => {}
-            result => return result,
-        }
-    }
-    file.read(into)
 }
 
 /// Real files, by their paths in UTF-8. A file that doesn't exist, a folder, and a name that isn't
@@ -152,10 +140,7 @@ where
 
     fn save(&mut self, name: &[u8], bytes: &[u8]) -> Result<(), OutError> {
         let saved = write_file(self.rt, name, bytes);
-        if let Err(OutError::Failed) = saved {
-            self.save_faults = self.save_faults.saturating_add(1);
-        }
-        saved
+        counted_save(saved, &mut self.save_faults)
     }
 
     fn save_pieces<P: Pieces + Drop>(
@@ -165,10 +150,7 @@ where
         pieces: P,
     ) -> Result<(), OutError> {
         let saved = write_pieces(self.rt, alloc, name, pieces);
-        if let Err(OutError::Failed) = saved {
-            self.save_faults = self.save_faults.saturating_add(1);
-        }
-        saved
+        counted_save(saved, &mut self.save_faults)
     }
 
     ghost untold_reads = { λ store name untold. refl };
@@ -178,7 +160,7 @@ where
 
 /// Opens a file for reading. A folder, which the system would open too, is a failure.
 fn open_source<R: Files + AllocGlobal>(rt: &R, name: &[u8]) -> Result<DiskSource<R::File>, OutError>
-    ensures { IfOk result (λ input. input ≡ unread_file) }
+    ensures { IfOk result (λ input. input ≡ record unread_file { left = input.left }) }
 {
     let path = str::from_utf8(name).map_err(|_| Failed)?;
     let file = fs::open(rt, path)?;
@@ -193,13 +175,26 @@ fn open_source<R: Files + AllocGlobal>(rt: &R, name: &[u8]) -> Result<DiskSource
     })
 }
 
+/// Counts a save that failed, and returns what became of it.
+fn counted_save(saved: Result<(), OutError>, faults: &mut u64) -> Result<(), OutError>
+    ensures same { result ≡ saved }
+    ensures failed { OnFailed saved (faults.new ≡ counted faults.old) }
+    ensures ok { OnOk saved (faults.new ≡ faults.old) }
+    ensures memory { OnMemory saved (faults.new ≡ faults.old) }
+    ensures later { faults.old ≤ faults.new }
+{
+    if let Err(OutError::Failed) = saved {
+        *faults = faults.saturating_add(1);
+    }
+    saved
+}
+
 /// Writes a file with these bytes. Once it is open its old bytes are gone, so from then on running
 /// out of memory is a fault: the file may hold anything.
 fn write_file<R: Files>(rt: &R, name: &[u8], bytes: &[u8]) -> Result<(), OutError> {
     let path = str::from_utf8(name).map_err(|_| Failed)?;
-    let mut file = fs::create(rt, path)?;
-    file.write_all(bytes).map_err(|_| Failed)?;
-    Ok(())
+    let mut file = WrittenFile::new(fs::create(rt, path)?);
+    write_whole(&mut file, bytes)
 }
 
 /// Writes a file with the bytes that are left of some pieces, as `write_file` does.
@@ -210,12 +205,7 @@ fn write_pieces<R: Files, P: Pieces + Drop>(
     pieces: P,
 ) -> Result<(), OutError> {
     let path = str::from_utf8(name).map_err(|_| Failed)?;
-    let mut pieces = pieces;
-    let mut buffer = Vec::with_capacity(alloc, PIECE)?;
-    let mut file = fs::create(rt, path)?;
-    while pieces.append_to(&mut buffer) {
-        file.write_all(buffer.as_slice()).map_err(|_| Failed)?;
-        buffer.clear();
-    }
-    Ok(())
+    let buffer = Vec::with_capacity(alloc, PIECE)?;
+    let mut file = WrittenFile::new(fs::create(rt, path)?);
+    write_each(&mut file, buffer, pieces)
 }

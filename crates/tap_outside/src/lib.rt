@@ -16,6 +16,8 @@ mod source;
 mod standard_output;
 mod store;
 mod sure_store;
+mod system_calls;
+mod written_file;
 
 pub use causes::{Failed, OutError};
 pub use command_words::Word;

@@ -1,10 +1,9 @@
 //! Standard output. Only the system knows what it has taken, so contracts say nothing about that.
-ghost use Rattle.std.specs.Prelude.{◌≡◌, ◌<◌, ◌≤◌, None, length, IfOk};
+ghost use Rattle.std.specs.Prelude.{◌≡◌, None};
 
-use crate::disk_files::TRIES;
+use crate::system_calls::write_some;
 use crate::{OutError, Sink};
 use std::io;
-use std::io::ErrorKind;
 
 /// Standard output. Each write goes to the system at once.
 #[derive(Drop)]
@@ -37,25 +36,10 @@ impl<'a, R: Print> Sink for StdSink<'a, R> {
     /// A write that a signal interrupts is tried again, 16 times at most. Every other error is a
     /// fault, except that memory ran out; so is a write that takes nothing.
     fn write(&mut self, from: &[u8]) -> Result<usize, OutError> {
-        let written = write_some(self.rt, from);
+        let written = write_some(&mut io::writer(self.rt), from);
         if let Err(OutError::Failed) = written {
             self.faults = self.faults.saturating_add(1);
         }
         written
     }
-}
-
-/// One write of at least a byte, tried again if a signal interrupts it.
-fn write_some<R: Print>(rt: &R, from: &[u8]) -> Result<usize, OutError>
-    ensures { IfOk result (λ n. (0 < n) × (n ≤ length from.now)) }
-{
-    for _ in 0..TRIES {
-        match rt.write_some(from) {
-            Ok(0) => return Err(OutError::Failed),
-            Ok(taken) => return Ok(taken),
-            Err(error) if error.kind() == ErrorKind::Interrupted => {}
-            Err(error) => return Err(OutError::from(error)),
-        }
-    }
-    Err(OutError::Failed)
 }
