@@ -1,9 +1,9 @@
--- The words of arguments are UTF-8, and no longer than the largest buffer.
-use Rattle.std.proofs.Common.{◌≡◌, ℕ, ◌*◌, ◌%◌, ◌^◌, ◌<◌, ◌≤◌, List, [], ◌∷◌, ◌++◌, length, take}
+-- The words of arguments are all that was told, UTF-8, and no longer than the largest buffer.
+use Rattle.std.proofs.Common.{◌≡◌, ℕ, ◌*◌, ◌%◌, ◌^◌, ◌<◌, ◌≤◌, List, [], ◌∷◌, ◌++◌, length, map, take}
 use Rattle.std.proofs.Common.{Option, None, Some, Result, Ok, Err, All, IfOk, IfSome, IsUtf8, inl, inr}
-use Rattle.std.proofs.Common.{sym, ap, subst, arith}
+use Rattle.std.proofs.Common.{sym, ap, ◌∙◌, subst, arith}
 use Rattle.std.proofs.lemmas.Bool.{cases_lt}
-use Rattle.std.proofs.lemmas.List.{length-take}
+use Rattle.std.proofs.lemmas.List.{length-take, map-append}
 use Rattle.std.proofs.lemmas.List.Elements.{All-push}
 use Rattle.std.proofs.lemmas.Nat.{pow_below}
 use Rattle.std.proofs.lemmas.Str.{IsUtf8-nil}
@@ -38,3 +38,14 @@ pub one_more : (P : List ℕ → Type 0) (words more : List (List ℕ)) (found :
 one_more P words more None word added is holds all = cc
 one_more P words more (Some found) word added is holds all =
     subst (All P) (sym added) (All-push P words word all (subst (λ option. IfSome option P) is holds))
+
+-- one more answer, which is a word
+pub one_told : (words more : List (List ℕ)) (before after : List (Option (List ℕ))) (found : Option (List ℕ))
+    (word : List ℕ) → more ≡ words ++ word ∷ [] → found ≡ Some word → after ≡ before ++ found ∷ []
+    → before ≡ map Some words → after ≡ map Some more
+one_told words more before after found word added is told all =
+    told
+    ∙ ap (λ (answers : List (Option (List ℕ))). answers ++ found ∷ []) all
+    ∙ ap (λ (answer : Option (List ℕ)). map Some words ++ answer ∷ []) is
+    ∙ sym (map-append Some words (word ∷ []))
+    ∙ ap (λ (those : List (List ℕ)). map Some those) (sym added)

@@ -1,4 +1,7 @@
 //! What the program does.
+ghost use Rattle.std.specs.Prelude.{◌≡◌};
+ghost use Rattle.tap_engine.specs.Numbers.{number_of};
+
 use crate::arguments::words;
 use cpu_feeders::NoGate;
 use std::env::Env;
@@ -7,8 +10,8 @@ use std::process::ExitCode;
 use std::rt::Files;
 use std::sync::Wait;
 use std::thread::Threads;
-use tap_engine::{Status, run};
-use tap_outside::{DiskStore, StdSink, write_whole};
+use tap_engine::{Outcome, Status, run};
+use tap_outside::{DiskStore, History, StdSink, write_whole};
 
 /// Carries out the command given by the program's arguments, over real files and standard output,
 /// and returns the program's exit status. A `capture` starts threads and may wait for them.
@@ -17,7 +20,7 @@ where
     R: Env + Files + Print + AllocGlobal + Threads + Wait + Sync,
     R::File: Send,
 {
-    let Ok(words) = words(rt, rt.alloc()) else {
+    let Ok(words) = words(rt, rt.alloc(), &mut History::new()) else {
         // Printed as `run` prints it: once, if standard output takes it.
         let _ = write_whole(&mut StdSink::new(rt), b"out of memory\n");
         return ExitCode::from(Status::Memory.number());
@@ -26,9 +29,16 @@ where
     let mut out = StdSink::new(rt);
     let (store, out) = (&mut store, &mut out);
     let outcome = run(rt, rt.alloc(), words.as_slice(), store, out, &NoGate);
-    let code = ExitCode::from(outcome.status.number());
+    let code = ExitCode::from(code_of(&outcome));
     // The process ends here, and its memory with it: freeing each frame of the report first would
     // be of no use.
     mem::forget(outcome);
     code
+}
+
+/// The number with which the program ends.
+fn code_of(outcome: &Outcome) -> u8
+    ensures { result ≡ number_of outcome.now.status }
+{
+    outcome.status.number()
 }

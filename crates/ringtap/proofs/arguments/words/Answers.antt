@@ -1,5 +1,5 @@
-use Rattle.std.proofs.Common.{◌≤◌, length, IsUtf8}
-use Rattle.ringtap.proofs.Buffers.{one_more}
+use Rattle.std.proofs.Common.{rules, ◌≤◌, length, IsUtf8}
+use Rattle.ringtap.proofs.Buffers.{one_more, one_told}
 use Rattle.ringtap.proofs.arguments.words.Goals as goal
 
 pub loop-index-preserved : goal.loop-index-preserved
@@ -9,4 +9,7 @@ loop-index-preserved g c =
           c.in_ok-word.ensures.utf8 inv.0,
       one_more (λ word. length word ≤ 33554432) _ _ _ c.in-Some.word
           c.in_ok-push-in-Some.ensures.items c.in-Some.is c.in_ok-word.ensures.size inv.1,
+      one_told _ _ _ _ _ c.in-Some.word c.in_ok-push-in-Some.ensures.items c.in-Some.is
+          c.in_ok-word.ensures.told inv.2,
+      search rules,
     )
