@@ -5,6 +5,7 @@ ghost use Rattle.tap_outside.specs.Seen.{OnlySaves};
 ghost use Rattle.tap_saving.specs.Files.{CanBeOutput};
 ghost use Rattle.tap_saving.specs.inside.Plans.{IsTried};
 
+use crate::byte_pieces::BytePieces;
 use capture_file::PcapPieces;
 use frame_view::{Memory, Packets};
 use std::alloc::Global;
@@ -72,7 +73,7 @@ impl<'a> PlannedFile<'a> {
         ensures memory { OnErr result (S.seen store.new ≡ S.seen store.old) }
     {
         let saved = match self.content {
-            Content::Bytes(bytes) => store.save(&self.name, bytes),
+            Content::Bytes(bytes) => store.save_pieces(alloc, &self.name, BytePieces::new(bytes)),
             Content::Packets(packets) => {
                 store.save_pieces(alloc, &self.name, PcapPieces::new(packets))
             }
