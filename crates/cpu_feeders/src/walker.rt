@@ -13,12 +13,7 @@ use frame_view::Memory;
 use reader_walk::Taker;
 use ring_words::{TableWalker, WalkerEnd};
 use std::sync::Wait;
-use std::time::Duration;
 use tp_layout::Block;
-
-/// How long a reader sleeps at most until it polls again, in microseconds. It is woken by the next
-/// block that is retired, but not by the end of the last feeder.
-const SLEEP: u64 = 200;
 
 /// The word of a block that is given back: it is the feeder's again (TP_STATUS_KERNEL of
 /// `linux/if_packet.h`).
@@ -84,8 +79,8 @@ fn take_next<T: Taker + Drop, G: Gate>(gate: &G, walker: &mut Walker<T>) -> bool
 
 /// Reads blocks until no feeder is live and no block waits, and gives each back as a free one.
 /// Feeders are counted before each poll, so that what they retired is seen. While no block waits
-/// the reader yields between its polls; later it sleeps until a block is retired, or 200
-/// microseconds, this project's own choice.
+/// the reader yields between its polls; later it sleeps until a block is retired, or as long as an
+/// idler does.
 pub(crate) fn run_walker<T: Taker + Drop, R: Wait, G: Gate>(
     rt: &R,
     shared: &Shared<G>,
@@ -108,7 +103,8 @@ pub(crate) fn run_walker<T: Taker + Drop, R: Wait, G: Gate>(
         } else if live == 0 {
             return;
         } else if !idler.yields() {
-            let most = Duration::from_micros(SLEEP);
+            // The next block that is retired wakes it, but not the end of the last feeder.
+            let most = idler.pause();
             walker.end.wait_for_block(rt, most);
         }
     }
