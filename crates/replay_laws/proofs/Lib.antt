@@ -8,3 +8,4 @@ pub mod PrintedFreezes
 pub mod Alone
 pub mod AlikeSlots
 pub mod Courses
+pub mod SlotDrops

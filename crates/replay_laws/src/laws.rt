@@ -20,13 +20,16 @@ ghost use Rattle.ring_model.specs.Ring.{Size};
 ghost use Rattle.ring_model.specs.Rings.{Ring, fresh};
 ghost use Rattle.run_reports.specs.Jobs.{rules_of};
 ghost use Rattle.run_reports.specs.Reports.{IsRunReport};
-ghost use Rattle.run_reports.specs.RingRules.{block_rules};
+ghost use Rattle.run_reports.specs.RingRules.{block_rules, slot_rules};
 ghost use Rattle.run_reports.specs.declared.reports.RunReport.{RunReport};
 ghost use Rattle.setup_text.specs.TickOrder.{IsSchedule};
 ghost use Rattle.setup_text.specs.declared.jobs.Job.{Job};
 ghost use Rattle.setup_text.specs.declared.lines.Line.{Line};
+ghost use Rattle.slot_layout.specs.SlotFates.{slot_totals_of};
 
 use ring_laws::a_ring_that_counted_no_freeze_found_none_held;
+use ring_model::statistics_count_each_packet;
+use slot_layout::a_slot_ring_counts_as_a_ring_of_blocks;
 
 /// A replay of which no note found its block, or slot, still the reader's is that of rings with
 /// more of them too: the same logs, notes and released blocks. So where rings of some number of
@@ -100,6 +103,20 @@ pub fn a_member_without_a_freeze_found_none_held()
         report.members }
 {
     a_ring_that_counted_no_freeze_found_none_held();
+}
+
+/// In the report of a run over rings of slots without rollover a member whose line has `drops 0`
+/// found no slot still the reader's: no packet is handed back, and each slot found held would be a
+/// drop.
+pub fn a_member_over_slots_without_a_drop_found_none_held()
+    ensures { (job : Job) (bytes : List (List ℕ)) (ends : List CpuEnd) (report : RunReport)
+        → IsRunReport (slot_rules job.setup.shape) job bytes ends report
+        → rolls_over (rules_of job) ≡ false
+        → All (λ member. (slot_totals_of member.notes).drops ≡ 0 → IsNeverHeld member.notes)
+        report.members }
+{
+    a_slot_ring_counts_as_a_ring_of_blocks();
+    statistics_count_each_packet();
 }
 
 /// Without rollover a replay whose lines all have `freezes 0` reports the same over rings with more
