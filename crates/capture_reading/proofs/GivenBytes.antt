@@ -99,6 +99,7 @@ pub gave_nothing : (first : Option SourceSeen) → damage_of [] ≡ None → Giv
 gave_nothing None sound = refl
 gave_nothing (Some seen) sound =
     record {
+      name_is = refl;
       taken = Consumes-none seen.left;
       given_is = sym (append-nil seen.given);
       faultless = refl;
@@ -141,6 +142,7 @@ fault_gives (Some seen) old new bytes few h failed =
     let same = h.faultless in
     let later = failed.later in
     record {
+      name_is = failed.name_is ∙ h.name_is;
       taken = on_and_on seen.left old.left new.left bytes h.taken failed.taken;
       given_is = failed.given_is ∙ h.given_is;
       last = sound_ends bytes h.sound;
@@ -164,6 +166,7 @@ end_gives (Some seen) old new bytes piece end few h gave empty is =
     let still = gave.faultless in
     let nothing = subst (λ (p : List ℕ). Consumes old.left new.left p) empty gave.taken in
     record {
+      name_is = gave.name_is ∙ h.name_is;
       taken = on_and_on seen.left old.left new.left bytes h.taken nothing;
       given_is = none_more seen.given old.given new.given bytes piece h.given_is gave.given_is empty;
       last = sound_ends bytes h.sound;
@@ -193,6 +196,7 @@ pub piece_gives : (first : Option SourceSeen) (old new : SourceSeen) (bytes piec
     → Giving first (Some new) (bytes ++ piece) (ended_by damage)
 piece_gives None old new bytes piece damage the_end uncut few small h gave is = absurd h
 piece_gives (Some seen) old new bytes piece None the_end uncut few small h gave is = record {
+  name_is = gave.name_is ∙ h.name_is;
   taken = Consumes-more seen.left old.left new.left bytes piece h.taken gave.taken;
   given_is = more_given seen.given old.given new.given bytes piece h.given_is gave.given_is;
   faultless = gave.faultless ∙ h.faultless;
@@ -202,6 +206,7 @@ piece_gives (Some seen) old new bytes piece (Some damage) the_end uncut few smal
     let same = h.faultless in
     let still = gave.faultless in
     record {
+      name_is = gave.name_is ∙ h.name_is;
       taken = Consumes-more seen.left old.left new.left bytes piece h.taken gave.taken;
       given_is = more_given seen.given old.given new.given bytes piece h.given_is gave.given_is;
       last = record { before = bytes; piece = piece; parts = refl; sound = h.sound; small = small };

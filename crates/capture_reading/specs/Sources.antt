@@ -13,6 +13,7 @@ use Rattle.tap_outside.specs.Seen.{SourceSeen}
 
 -- a read gave a piece and counted no fault; a piece without a byte comes only at the end
 pub record GavePiece (old new : SourceSeen) (piece : List ℕ) : Type 0 where
+  pub name_is : new.name ≡ old.name
   pub taken : Consumes old.left new.left piece
   pub given_is : new.given ≡ old.given ++ piece
   pub end : piece ≡ [] → IsAtEnd new.left
@@ -20,6 +21,7 @@ pub record GavePiece (old new : SourceSeen) (piece : List ℕ) : Type 0 where
 
 -- a read failed: it gave nothing and counted a fault
 pub record FailedToGive (old new : SourceSeen) : Type 0 where
+  pub name_is : new.name ≡ old.name
   pub taken : Consumes old.left new.left []
   pub given_is : new.given ≡ old.given
   pub later : old.faults ≤ new.faults
@@ -59,6 +61,7 @@ pub record EndsAtDamage (bytes : List ℕ) : Type 0 where
 
 -- a source gave these bytes more, whether or not it reports what is left, and ended so
 pub record Gave (old new : SourceSeen) (bytes : List ℕ) (end : CpuEnd) : Type 0 where
+  pub name_is : new.name ≡ old.name
   pub taken : Consumes old.left new.left bytes
   pub given_is : new.given ≡ old.given ++ bytes
   pub last : EndsAtDamage bytes
@@ -83,6 +86,7 @@ GaveIfThere old new bytes end = ⊥
 
 -- what a source has given so far, if it hasn't ended: no read failed, and the bytes show no damage
 pub record GaveSoFar (old new : SourceSeen) (bytes : List ℕ) : Type 0 where
+  pub name_is : new.name ≡ old.name
   pub taken : Consumes old.left new.left bytes
   pub given_is : new.given ≡ old.given ++ bytes
   pub faultless : new.faults ≡ old.faults

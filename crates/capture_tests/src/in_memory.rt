@@ -1,5 +1,6 @@
 //! Words, and sources, sinks and stores in memory: each call once with ample memory.
-ghost use Rattle.std.specs.Prelude.{◌≡◌, ◌++◌, ◌∷◌, [], IfOk, IsTrue};
+ghost use Rattle.std.specs.Prelude.{◌≡◌, ◌++◌, ◌∷◌, [], IfOk, IsTrue, OnOk};
+ghost use Rattle.tap_outside.specs.Seen.{Entry};
 
 use frame_view::{ByteList, MomentList};
 use std::alloc::{AllocError, Global};
@@ -37,7 +38,8 @@ pub(crate) fn fetched<S: Store>(
 /// What a source gives before it ends or a read fails, up to 36 bytes, read by four bytes.
 fn given_by<I: Source>(alloc: Global, input: &mut I) -> Result<Vec<u8>, AllocError>
     requires { (I.seen input.old).given ≡ [] }
-    ensures { IfOk result (λ bytes. (I.seen input.new).given ≡ bytes.items) }
+    ensures given { IfOk result (λ bytes. (I.seen input.new).given ≡ bytes.items) }
+    ensures named { (I.seen input.new).name ≡ (I.seen input.old).name }
 {
     let mut bytes = Vec::new(alloc);
     'reading: for _ in 0..9 {
@@ -50,15 +52,20 @@ fn given_by<I: Source>(alloc: Global, input: &mut I) -> Result<Vec<u8>, AllocErr
     Ok(bytes)
 }
 
-/// What a store records of a name whose source is read until it ends or a read fails.
+/// What a store records of a name whose source is read until it ends or a read fails: one source
+/// was opened, and its entry has the name and these bytes.
 pub(crate) fn recorded<S: Store>(
     alloc: Global,
     store: &mut S,
     name: &[u8],
 ) -> Result<Vec<u8>, OutError>
     requires { IsTrue ((S.seen store.old).to_read name.now) }
-    ensures { IfOk result (λ bytes.
-        (S.seen store.new).closed ≡ (S.seen store.old).closed ++ bytes.items ∷ []) }
+    ensures opened { OnOk result ((S.seen store.new).sources.opened
+        ≡ (S.seen store.old).sources.opened ++ name.now ∷ []) }
+    ensures closed { IfOk result (λ bytes. (entry : Entry)
+        × (entry.name ≡ name.now) × (entry.bytes ≡ bytes.items)
+        × ((S.seen store.new).sources.closed
+        ≡ (S.seen store.old).sources.closed ++ entry ∷ [])) }
 {
     let mut input = store.fetch(name)?;
     let bytes = given_by(alloc, &mut input)?;

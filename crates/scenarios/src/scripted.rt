@@ -1,5 +1,5 @@
 //! A store and a sink whose calls fail as a script says, and that record which calls there were.
-ghost use Rattle.std.specs.Prelude.{◌≡◌, ◌≤◌, ◌<◌, [], length, map, refl, None, false, true, IfOk};
+ghost use Rattle.std.specs.Prelude.{◌≡◌, ◌≤◌, ◌<◌, [], length, refl, None, false, true, IfOk};
 
 use crate::cases::{Case, has_number};
 use crate::files::push_line;
@@ -7,11 +7,13 @@ use crate::lines::{call_number, number};
 use frame_view::{Memory, MomentList};
 use history::History;
 use std::str;
-use tap_outside::{Failed, MemStore, OutError, Sink, Source, Store};
+use tap_outside::{Failed, MemStore, OutError, Sink, Source, SourceLog, Store};
 
 /// A source of a store's file.
 #[derive(Drop)]
 pub(crate) struct ScriptSource<'a> {
+    /// The name of the file. It takes no memory: only contracts read it.
+    name: History<u8>,
     /// How many fetches there were before its own.
     fetch: usize,
     /// The bytes of the file.
@@ -37,6 +39,7 @@ pub(crate) struct ScriptSource<'a> {
 
 impl<'a> Source for ScriptSource<'a> {
     ghost seen = { λ source. record {
+      name = source.name.items;
       left = None;
       given = source.given.items;
       faults = source.faults;
@@ -85,8 +88,8 @@ pub(crate) struct ScriptStore<'a> {
     pub(crate) calls: Calls,
     /// How many fetches, and sources with a fault, were counted; it stays at the greatest u64.
     read_faults: u64,
-    /// What each source gave that was closed, and nothing for each fetch that failed.
-    closed: History<History<u8>>,
+    /// The sources that were opened and closed.
+    sources: SourceLog<ScriptSource<'a>>,
     /// How many saves were counted; it stays at the greatest u64.
     save_faults: u64,
 }
@@ -126,7 +129,7 @@ impl<'a> ScriptStore<'a> {
                 saved: String::new(case.alloc),
             },
             read_faults: 0,
-            closed: History::new(),
+            sources: SourceLog::new(),
             save_faults: call_number(case.scenario.value_named("faults", "save")),
         }
     }
@@ -139,14 +142,18 @@ impl<'a> ScriptStore<'a> {
     }
 
     /// A source of a file that nobody has read, at the fetch after this number of others.
-    fn open(&self, name: &str, fetch: usize) -> Result<ScriptSource<'a>, Memory>
+    fn open(&self, file: &[u8], name: &str, fetch: usize) -> Result<ScriptSource<'a>, Memory>
         ensures fresh { IfOk result (λ source. source.faults ≡ 0) }
         ensures unread { IfOk result (λ source. source.given.items ≡ []) }
+        ensures named { IfOk result (λ source. source.name.items ≡ file.now) }
     {
         let case = self.case;
         let is_fault = case.fault.word == "fail" && case.fault.what == name;
         let bytes = self.files.file(name.as_bytes()).unwrap_or(&[]);
+        let mut its_name = History::new();
+        its_name.extend(file);
         Ok(ScriptSource {
+            name: its_name,
             fetch,
             bytes: bytes.to_vec(case.alloc)?,
             at: 0,
@@ -165,7 +172,7 @@ impl<'a> ScriptStore<'a> {
     fn put(&mut self, name: &[u8], bytes: &[u8], save: u64) -> Result<bool, Memory>
         ensures reads { self.new.read_faults ≡ self.old.read_faults }
         ensures saves { self.new.save_faults ≡ self.old.save_faults }
-        ensures closed { self.new.closed ≡ self.old.closed }
+        ensures sources { self.new.sources ≡ self.old.sources }
     {
         let left = self.case.half(save);
         let is_failing = self.case.has("fail", "save", save);
@@ -186,7 +193,7 @@ impl<'a> Store for ScriptStore<'a> {
       to_read = λ _. true;
       to_save = λ _. true;
       read_faults = store.read_faults;
-      closed = map (λ given. given.items) store.closed.items;
+      sources = store.sources;
       save_faults = store.save_faults;
       exact = false;
     } };
@@ -202,11 +209,12 @@ impl<'a> Store for ScriptStore<'a> {
         let number = (fetch as u64).saturating_add(1);
         if self.case.has("fail", "fetch", number) || self.files.file(name).is_none() {
             self.read_faults = self.read_faults.saturating_add(1);
-            self.closed.push(&History::new());
+            self.sources.missed(name);
             return Err(OutError::Failed);
         }
-        let source = self.open(text, fetch)?;
+        let source = self.open(name, text, fetch)?;
         self.read_faults = self.read_faults.saturating_add(1);
+        self.sources.opened(name);
         Ok(source)
     }
 
@@ -217,7 +225,7 @@ impl<'a> Store for ScriptStore<'a> {
         if input.faults > 0 {
             self.read_faults = self.read_faults.saturating_add(1);
         }
-        self.closed.push(&input.given);
+        self.sources.closed(input);
     }
 
     fn save(&mut self, name: &[u8], bytes: &[u8]) -> Result<(), OutError> {
@@ -255,6 +263,8 @@ pub(crate) struct ScriptSink<'a> {
     writes: u64,
     /// How many of them failed; it stays at the greatest u64.
     faults: u64,
+    /// How many ran out of memory; it stays at the greatest u64.
+    refused: u64,
 }
 
 impl<'a> ScriptSink<'a> {
@@ -265,12 +275,17 @@ impl<'a> ScriptSink<'a> {
             bytes: Vec::new(case.alloc),
             writes: 0,
             faults: 0,
+            refused: 0,
         }
     }
 }
 
 impl<'a> Sink for ScriptSink<'a> {
-    ghost seen = { λ sink. record { written = None; faults = sink.faults } };
+    ghost seen = { λ sink. record {
+      written = None;
+      faults = sink.faults;
+      refused = sink.refused;
+    } };
 
     fn write(&mut self, from: &[u8]) -> Result<usize, OutError> {
         self.writes = self.writes.saturating_add(1);
@@ -278,11 +293,12 @@ impl<'a> Sink for ScriptSink<'a> {
             self.faults = self.faults.saturating_add(1);
             return Err(OutError::Failed);
         }
-        if self.case.has("poor", "write", self.writes) {
+        let (front, _) = from.split_at(from.len().min(TAKEN));
+        let is_poor = self.case.has("poor", "write", self.writes);
+        if is_poor || self.bytes.extend_from_slice(front).is_err() {
+            self.refused = self.refused.saturating_add(1);
             return Err(OutError::Memory);
         }
-        let (front, _) = from.split_at(from.len().min(TAKEN));
-        self.bytes.extend_from_slice(front)?;
         Ok(front.len())
     }
 }

@@ -23,7 +23,7 @@ use Rattle.setup_text.specs.declared.setups.Setup.{Setup}
 use Rattle.setup_text.specs.declared.text_error.TextError.{TextError}
 use Rattle.tap_outside.specs.Contents.{Contents}
 use Rattle.tap_outside.specs.Counts.{RoseBy}
-use Rattle.tap_outside.specs.Seen.{SinkSeen, StoreSeen}
+use Rattle.tap_outside.specs.Seen.{SinkSeen, SourcesSeen, StoreSeen}
 use Rattle.tap_reading.specs.Readers.{Says, setup_for}
 use Rattle.capture_reading.specs.Sources.{UnlessFault, WhereEnded, end_by}
 use Rattle.tap_saving.specs.Saves.{marked}
@@ -71,23 +71,24 @@ worth_in old new (Some named) (finding.Sent setup sending) h = tt
 
 -- what was saved since has changed nothing of the record
 headline_later : (old mid new : StoreSeen) (named : Named) (report : RunReport)
-    → new.closed ≡ mid.closed → IsHeadline old mid named report → IsHeadline old new named report
+    → new.sources ≡ mid.sources → IsHeadline old mid named report → IsHeadline old new named report
 headline_later old mid new named report same h = record {
+  texts = h.texts;
   job = h.job;
   job_is = h.job_is;
   read = h.read;
-  texts = h.texts;
+  read_is = h.read_is;
   bytes = h.bytes;
   ends = h.ends;
   captures = h.captures;
-  given = subst (λ (closed : List (List ℕ)). GivenFor named.command h.read.closed closed h.bytes)
-      (sym same) h.given;
+  given = subst (λ (sources : SourcesSeen). GivenFor named.command h.read.sources sources
+      h.job.setup.cpus h.bytes h.ends) (sym same) h.given;
   report_is = h.report_is;
   run = h.run;
 }
 
 worth_later : (command : Option Named) (old mid new : StoreSeen) (report : Option RunReport)
-    → new.closed ≡ mid.closed → IsWorth command old mid report → IsWorth command old new report
+    → new.sources ≡ mid.sources → IsWorth command old mid report → IsWorth command old new report
 worth_later command old mid new None same h = tt
 worth_later command old mid new (Some report) same h =
     (h.0, h.1, headline_later old mid new h.0 report same h.2)
@@ -98,7 +99,7 @@ pub worth_of : (command : Option Named) (outcome : Outcome) (old new : StoreSeen
 worth_of command outcome old new before after t =
     subst (λ (r : Option RunReport). IsWorth command old new r) (sym t.concludes.report)
     (worth_later command old t.read new (report_in t.finding)
-    (ap (λ (s : StoreSeen). s.closed) t.concludes.touches.same)
+    (ap (λ (s : StoreSeen). s.sources) t.concludes.touches.same)
     (worth_in old t.read command t.finding t.found))
 
 none_some : {A : Type 0} (o : Option A) (value : A) → o ≡ None → o ≡ Some value → ⊥
@@ -107,10 +108,11 @@ none_some (Some x) value e f = cc
 
 -- ---- texts that are accepted aren't refused
 
-the_setup : (files : Contents) (named : Named) (sound : IsSound files named) (setup : Setup)
-    → HasSetup (Some files) named setup → sound.setup ≡ setup
-the_setup files named sound setup has = same_value (setup_for named.command) files named.setup
-    sound.setup setup (setups named.command) sound.setup_is has
+the_setup : (files : Contents) (named : Named) (sound : IsSound files named) (text : List ℕ)
+    (setup : Setup) → HasSetup (Some files) named text setup → sound.setup ≡ setup
+the_setup files named sound text setup has =
+    same_value (setup_for named.command) files named.setup text sound.setup setup
+    (setups named.command) sound.setup_is has
 
 sound_filter : (files : Contents) (filter : Option (List ℕ)) (name : List ℕ) (error : TextError)
     → filter ≡ Some name → IsSoundFilter files filter → (filter_of (text_in files name) ≡ Err error)
@@ -144,10 +146,11 @@ no_filter : (files : Contents) (old new : StoreSeen) (named : Named) (error : Te
 no_filter files old new named error held sound h =
     sound_filter files (filter_for named.command h.setup) h.name error h.names
     (subst (λ (s : Setup). IsSoundFilter files (filter_for named.command s))
-    (the_setup files named sound h.setup (subst (λ (o : Option Contents). HasSetup o named h.setup)
-    held h.has)) sound.filter)
-    (says_held filter_of files h.name (Err error) filters
-    (subst (λ (o : Option Contents). Says filter_of o h.name (Err error)) held h.refused.says))
+    (the_setup files named sound h.text h.setup
+    (subst (λ (o : Option Contents). HasSetup o named h.text h.setup) held h.has)) sound.filter)
+    (says_held filter_of files h.name h.refused.text (Err error) filters
+    (subst (λ (o : Option Contents). Says filter_of o h.name h.refused.text (Err error)) held
+    h.refused.says))
 
 no_ticks : (files : Contents) (old new : StoreSeen) (named : Named) (error : TextError)
     → old.held ≡ Some files → IsSound files named
@@ -155,17 +158,19 @@ no_ticks : (files : Contents) (old new : StoreSeen) (named : Named) (error : Tex
 no_ticks files old new named error held sound h =
     sound_ticks files (ticks_for named.command h.job.setup) h.name error h.names
     (subst (λ (s : Setup). AreSoundTicks files (ticks_for named.command s))
-    (the_setup files named sound h.job.setup (subst (λ (o : Option Contents). HasSetup o named
-    h.job.setup) held h.has.setup)) sound.ticks)
-    (says_held moments_of files h.name (Err error) moments
-    (subst (λ (o : Option Contents). Says moments_of o h.name (Err error)) held h.refused.says))
+    (the_setup files named sound h.texts.setup h.job.setup
+    (subst (λ (o : Option Contents). HasSetup o named h.texts.setup h.job.setup) held h.has.setup))
+    sound.ticks)
+    (says_held moments_of files h.name h.refused.text (Err error) moments
+    (subst (λ (o : Option Contents). Says moments_of o h.name h.refused.text (Err error)) held
+    h.refused.says))
 
 last_of : (files : Contents) (named : Named) → IsSound files named
-    → (command : Command) (setup : Setup) → named.command ≡ command
-    → HasSetup (Some files) named setup → AreSoundLast command files named.schedule setup
-last_of files named sound command setup is has =
+    → (command : Command) (text : List ℕ) (setup : Setup) → named.command ≡ command
+    → HasSetup (Some files) named text setup → AreSoundLast command files named.schedule setup
+last_of files named sound command text setup is has =
     subst (λ (s : Setup). AreSoundLast command files named.schedule s)
-    (the_setup files named sound setup has)
+    (the_setup files named sound text setup has)
     (subst (λ (c : Command). AreSoundLast c files named.schedule sound.setup) is sound.last)
 
 sound_schedule : (command : Command) (files : Contents) (name : List ℕ) (setup : Setup)
@@ -184,12 +189,12 @@ no_schedule : (files : Contents) (old new : StoreSeen) (named : Named) (error : 
     → HasBadSchedule old new named error → ⊥
 no_schedule files old new named error held sound h =
     let schedule = sound_schedule named.command files named.schedule h.job.setup h.command
-    (last_of files named sound named.command h.job.setup refl
-    (subst (λ (o : Option Contents). HasSetup o named h.job.setup) held h.has.setup)) in
-    not_both (lines_for h.job) files named.schedule schedule.0 error
+    (last_of files named sound named.command h.texts.setup h.job.setup refl
+    (subst (λ (o : Option Contents). HasSetup o named h.texts.setup h.job.setup) held h.has.setup)) in
+    not_both (lines_for h.job) files named.schedule h.refused.text schedule.0 error
     (schedules (length h.job.setup.cpus) h.job.setup.plan.members) schedule.1
-    (subst (λ (o : Option Contents). Says (lines_for h.job) o named.schedule (Err error)) held
-    h.refused.says)
+    (subst (λ (o : Option Contents). Says (lines_for h.job) o named.schedule h.refused.text
+    (Err error)) held h.refused.says)
 
 no_text : (files : Contents) (old new : StoreSeen) (named : Named) (error : TextError)
     → old.held ≡ Some files → IsSound files named
@@ -307,48 +312,49 @@ made_logs cpu (b ∷ bytes) (log ∷ logs) are =
     behind_whole cpu log.end (status_of_logs (cpu + 1) logs) are.0
     (made_logs (cpu + 1) bytes logs are.1)
 
-fine_captures : (files : Contents) (named : Named) (setup : Setup) (bytes : List (List ℕ))
-    (ends : List CpuEnd) (logs : List CpuLog) (command : Command)
-    → IsSound files named → named.command ≡ command → HasSetup (Some files) named setup
+fine_captures : (files : Contents) (named : Named) (text : List ℕ) (setup : Setup)
+    (bytes : List (List ℕ)) (ends : List CpuEnd) (logs : List CpuLog) (command : Command)
+    → IsSound files named → named.command ≡ command → HasSetup (Some files) named text setup
     → CapturesFor command (Some files) setup bytes ends
     → AreEnds logs ends → faults_in logs ≡ 0 → status_of_logs 0 logs ≡ statuses.Fine
-fine_captures files named setup bytes ends logs Check sound is has captures are none = absurd
+fine_captures files named text setup bytes ends logs Check sound is has captures are none = absurd
     captures
-fine_captures files named setup bytes ends logs Make sound is has captures are none =
+fine_captures files named text setup bytes ends logs Make sound is has captures are none =
     made_logs 0 bytes logs (subst (λ (es : List CpuEnd). AreEnds logs es) captures.whole are)
-fine_captures files named setup bytes ends logs Replay sound is has captures are none =
+fine_captures files named text setup bytes ends logs Replay sound is has captures are none =
     fine_logs files setup.cpus 0 bytes ends logs captures are
-    (last_of files named sound Replay setup is has).1 none
-fine_captures files named setup bytes ends logs Replay2 sound is has captures are none =
+    (last_of files named sound Replay text setup is has).1 none
+fine_captures files named text setup bytes ends logs Replay2 sound is has captures are none =
     fine_logs files setup.cpus 0 bytes ends logs captures are
-    (last_of files named sound Replay2 setup is has).1 none
-fine_captures files named setup bytes ends logs Capture sound is has captures are none =
+    (last_of files named sound Replay2 text setup is has).1 none
+fine_captures files named text setup bytes ends logs Capture sound is has captures are none =
     fine_logs files setup.cpus 0 bytes ends logs captures are
-    (last_of files named sound Capture setup is has) none
-fine_captures files named setup bytes ends logs Forward sound is has captures are none =
+    (last_of files named sound Capture text setup is has) none
+fine_captures files named text setup bytes ends logs Forward sound is has captures are none =
     fine_logs files setup.cpus 0 bytes ends logs captures are
-    (last_of files named sound Forward setup is has) none
-fine_captures files named setup bytes ends logs Send sound is has captures are none = absurd
+    (last_of files named sound Forward text setup is has) none
+fine_captures files named text setup bytes ends logs Send sound is has captures are none = absurd
     captures
 
 fine_report : (files : Contents) (old new : StoreSeen) (named : Named) (report : RunReport)
     → old.held ≡ Some files → IsSound files named → IsHeadline old new named report
     → faults_in report.cpus ≡ 0 → status_of_logs 0 report.cpus ≡ statuses.Fine
 fine_report files old new named report held sound h none =
-    fine_captures files named h.job.setup h.bytes h.ends report.cpus named.command sound refl
-    (subst (λ (o : Option Contents). HasSetup o named h.job.setup) held h.job_is.setup)
+    fine_captures files named h.texts.setup h.job.setup h.bytes h.ends report.cpus named.command
+    sound refl
+    (subst (λ (o : Option Contents). HasSetup o named h.texts.setup h.job.setup) held h.job_is.setup)
     (subst (λ (o : Option Contents). CapturesFor named.command o h.job.setup h.bytes h.ends) held
     h.captures)
     (report_ends (rules_for named.command h.job) h.job h.bytes h.ends report h.report_is) none
 
 -- the first capture is whole, if it is sent
-first_whole : (files : Contents) (named : Named) (setup : Setup) (job : Job) → IsSound files named
-    → named.command ≡ Send
-    → HasSetup (Some files) named job.setup → job.setup ≡ setup
+first_whole : (files : Contents) (named : Named) (text : List ℕ) (setup : Setup) (job : Job)
+    → IsSound files named → named.command ≡ Send
+    → HasSetup (Some files) named text job.setup → job.setup ≡ setup
     → end_of (text_in files (first_file setup.cpus)) ≡ None
-first_whole files named setup job sound is has same =
+first_whole files named text setup job sound is has same =
     subst (λ (s : Setup). end_of (text_in files (first_file s.cpus)) ≡ None) same
-    (last_of files named sound Send job.setup is has)
+    (last_of files named sound Send text job.setup is has)
 
 fine_sending : (files : Contents) (old new : StoreSeen) (named : Named) (setup : Setup)
     (sending : Sending) → old.held ≡ Some files → IsSound files named
@@ -357,12 +363,13 @@ fine_sending : (files : Contents) (old new : StoreSeen) (named : Named) (setup :
 fine_sending files old new named setup sending held sound h none =
     let capture : IsCapture (Some files) (first_file setup.cpus) h.sending_is.bytes sending.end =
     subst (λ (o : Option Contents). IsCapture o (first_file setup.cpus) h.sending_is.bytes
-    sending.end) (held_same old h.read h.texts.unfailed.only ∙ held) h.sending_is.capture in
+    sending.end) (held_same old h.read h.read_is.unfailed.only ∙ held) h.sending_is.capture in
     behind_whole 0 sending.end statuses.Fine
     (whole_end (text_in files (first_file setup.cpus)) h.sending_is.bytes capture.front.rest
     sending.end capture.front.parts
-    (first_whole files named setup h.job sound h.command
-    (subst (λ (o : Option Contents). HasSetup o named h.job.setup) held h.job_is.setup) h.setup_is)
+    (first_whole files named h.texts.setup setup h.job sound h.command
+    (subst (λ (o : Option Contents). HasSetup o named h.texts.setup h.job.setup) held h.job_is.setup)
+    h.setup_is)
     capture.damage
     capture.all (none_faults sending.end none))
     refl
@@ -382,10 +389,10 @@ fine_found files named old new finding.NoCommand is sound sane h = absurd h
 fine_found files named old new finding.Unread is sound sane h =
     absurd (sane (unread_rose old new named h))
 fine_found files named old new (finding.BadSetup error) is sound sane h =
-    absurd (not_both (setup_for named.command) files named.setup sound.setup error
+    absurd (not_both (setup_for named.command) files named.setup h.text sound.setup error
     (setups named.command) sound.setup_is
-    (subst (λ (o : Option Contents). Says (setup_for named.command) o named.setup (Err error)) is
-    h.says))
+    (subst (λ (o : Option Contents). Says (setup_for named.command) o named.setup h.text (Err error))
+    is h.says))
 fine_found files named old new (finding.BadText error) is sound sane h =
     absurd (no_text files old new named error is sound h)
 fine_found files named old new finding.Checked is sound sane h = refl

@@ -50,13 +50,13 @@ no_faults_in cpu (log ∷ logs) other =
 
 text_refused : (old new : StoreSeen) (named : Named) (error : TextError)
     → HasBadText old new named error → NoReadFailed old new
-text_refused old new named error (inl filter) = filter.refused.faultless
-text_refused old new named error (inr (inl ticks)) = ticks.refused.faultless
-text_refused old new named error (inr (inr schedule)) = schedule.refused.faultless
+text_refused old new named error (inl filter) = filter.refused.texts.unfailed
+text_refused old new named error (inr (inl ticks)) = ticks.refused.texts.unfailed
+text_refused old new named error (inr (inr schedule)) = schedule.refused.texts.unfailed
 
 no_read_failed : (old new : StoreSeen) (command : Option Named) (found : Finding)
     → IsFound command old new found → status_of found ≢ statuses.ReadFault → NoReadFailed old new
-no_read_failed old new None finding.NoCommand h other = h
+no_read_failed old new None finding.NoCommand h other = h.unfailed
 no_read_failed old new None finding.Unread h other = absurd h
 no_read_failed old new None (finding.BadSetup error) h other = absurd h
 no_read_failed old new None (finding.BadText error) h other = absurd h
@@ -65,10 +65,10 @@ no_read_failed old new None (finding.Ran rings setup report forwards) h other = 
 no_read_failed old new None (finding.Sent setup sending) h other = absurd h
 no_read_failed old new (Some named) finding.NoCommand h other = absurd h
 no_read_failed old new (Some named) finding.Unread h other = absurd (other refl)
-no_read_failed old new (Some named) (finding.BadSetup error) h other = h.faultless
+no_read_failed old new (Some named) (finding.BadSetup error) h other = h.texts.unfailed
 no_read_failed old new (Some named) (finding.BadText error) h other =
     text_refused old new named error h
-no_read_failed old new (Some named) finding.Checked h other = h.1
+no_read_failed old new (Some named) finding.Checked h other = h.read_is.unfailed
 no_read_failed old new (Some named) (finding.Ran rings setup report forwards) h other =
     h.1.faultless (no_faults_in 0 report.cpus other)
 no_read_failed old new (Some named) (finding.Sent setup sending) h other =

@@ -258,7 +258,7 @@ map_more f (y ∷ xs) x = ap (λ rest. f y ∷ rest) (map_more f xs x)
 pub reads_then : (a b c : StoreSeen) → OnlyReads a b → OnlyReads b c → OnlyReads a c
 reads_then a b c h k = record {
   same = k.same
-      ∙ ap (λ (s : StoreSeen). record s { read_faults = c.read_faults; closed = c.closed }) h.same;
+      ∙ ap (λ (s : StoreSeen). record s { read_faults = c.read_faults; sources = c.sources }) h.same;
   later = let x = h.later in let y = k.later in omega (arith, x, y);
 }
 

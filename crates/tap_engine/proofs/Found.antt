@@ -1,5 +1,5 @@
 -- What is found, and the outcome of a text that stops a command, also if more was read before.
-use Rattle.std.proofs.Common.{◌≡◌, ℕ, Bool, false, true, List, length, inl, inr}
+use Rattle.std.proofs.Common.{◌≡◌, ℕ, Bool, false, true, List, [], ◌∷◌, ◌++◌, length, inl, inr}
 use Rattle.std.proofs.Common.{refl, sym, ap, ◌∙◌, Option, None, Some, subst}
 use Rattle.std.specs.Prelude.{◌⊎◌, is_some, IfOk, IfErr, OnErr, Result, Ok, Err}
 use Rattle.capture_file.specs.declared.cpu_end.CpuEnd.{CpuEnd}
@@ -15,9 +15,10 @@ use Rattle.run_reports.specs.declared.reports.RunReport.{RunReport}
 use Rattle.setup_text.specs.declared.setups.Setup.{Setup}
 use Rattle.setup_text.specs.declared.text_error.TextError.{TextError}
 use Rattle.tap_outside.specs.Contents.{Contents}
-use Rattle.tap_outside.specs.Seen.{NoReadFailed, OnlyReads, StoreSeen}
+use Rattle.tap_outside.specs.Seen.{Entry, OnlyReads, StoreSeen}
+use Rattle.tap_outside.proofs.Taken.{none_open, none_open_then}
 use Rattle.tap_outside.specs.Counts.{RoseBy}
-use Rattle.tap_reading.specs.Fronts.{CantRead}
+use Rattle.tap_reading.specs.Fronts.{CantRead, RanOut, ReadTexts, text_entry}
 use Rattle.tap_reading.specs.Readers.{Refuses, Says, StopsAtSetup, StopsAtText}
 use Rattle.tap_reading.specs.declared.stops.Stop.{Stop}
 use Rattle.tap_reading.specs.declared.stops.Stop.TheVariants as stops
@@ -25,7 +26,7 @@ use Rattle.tap_saving.specs.Files.{names_from}
 use Rattle.tap_engine.specs.Commands.{Named, has_schedule, sends}
 use Rattle.tap_engine.specs.Findings.{IsFound, IsReady, IsReported, IsSentBy, finding_of, names_of}
 use Rattle.tap_engine.specs.Headline.{CapturesFor, IsHeadline, rules_for}
-use Rattle.tap_engine.specs.Given.{ReadTexts, first_texts}
+use Rattle.tap_engine.specs.Given.{Texts, first_texts}
 use Rattle.tap_engine.specs.Jobs.{CantReadNext, CantReadText, HasSetup, IsAsked, IsLoaded, Stops}
 use Rattle.tap_engine.specs.Jobs.{lines_for}
 use Rattle.tap_engine.specs.Conclusions.{IsCut, IsSearched}
@@ -36,7 +37,7 @@ use Rattle.tap_engine.specs.Names.{names_to_read, saved_for, ticks_for}
 use Rattle.tap_engine.proofs.Ends.{report_members}
 use Rattle.tap_engine.proofs.Fetched.{held_same, rose_earlier, to_read_same, to_save_same}
 use Rattle.tap_engine.proofs.Fetched.{unfailed_then}
-use Rattle.tap_engine.proofs.Given.{read_none}
+use Rattle.tap_engine.proofs.Given.{read_none, read_then}
 use Rattle.tap_engine.proofs.Meant.{AllMeant, Untold, outputs_meant}
 
 pub if_ok : {A E : Type 0} (P Q : A → Type 0) (result : Result A E) → ((x : A) → P x → Q x)
@@ -70,103 +71,124 @@ of_ok {A} {E} P result x is p = subst (λ (r : Result A E). IfOk r P) is p
 -- ---- why a text stops a command, from its start
 
 refuses_earlier : {A E : Type 0} (reader : List ℕ → Result A E) (wanted : E → Bool)
-    (old mid new : StoreSeen) (name : List ℕ) (error : E) → NoReadFailed old mid
-    → Refuses reader wanted mid new name error → Refuses reader wanted old new name error
-refuses_earlier reader wanted old mid new name error before h = record {
-  faultless = unfailed_then old mid new before h.faultless;
-  says = subst (λ (held : Option Contents). Says reader held name (Err error))
-      (held_same old mid before.only) h.says;
+    (old mid new : StoreSeen) (texts : List Entry) (name : List ℕ) (error : E)
+    → ReadTexts old mid texts → Refuses reader wanted [] mid new name error
+    → Refuses reader wanted texts old new name error
+refuses_earlier reader wanted old mid new texts name error before h = record {
+  text = h.text;
+  texts = read_then old mid new texts (text_entry name h.text ∷ []) before h.texts;
+  says = subst (λ (held : Option Contents). Says reader held name h.text (Err error))
+      (held_same old mid before.unfailed.only) h.says;
   not_memory = h.not_memory;
 }
 
-unread_next : (start old new : StoreSeen) (many : ℕ) (name : List ℕ) → ReadTexts start old many
-    → CantRead old new name → CantReadNext start new many name
-unread_next start old new many name texts unread =
-    record { before = old; texts = texts; unread = unread }
+unread_next : (start old new : StoreSeen) (texts : List Entry) (name : List ℕ)
+    → ReadTexts start old texts → CantRead old new name → CantReadNext start new texts name
+unread_next start old new texts name read unread =
+    record { before = old; read_is = read; unread = unread }
+
+-- memory ran out after these texts
+ran_out_later : (start old new : StoreSeen) (texts : List Entry) → ReadTexts start old texts
+    → RanOut old new → RanOut start new
+ran_out_later start old new texts read h = record {
+  unfailed = unfailed_then start old new read.unfailed h.unfailed;
+  closed = none_open_then start.sources old.sources new.sources
+      (none_open start.sources old.sources texts read.took) h.closed;
+}
 
 pub at_setup : (old new : StoreSeen) (named : Named) (stop : Stop)
     → StopsAtSetup named.command old new named.setup stop → Stops old new named stop
 at_setup old new named stops.Unread h =
-    inl (unread_next old old new 0 named.setup (read_none old) h)
+    inl (unread_next old old new [] named.setup (read_none old) h)
 at_setup old new named (stops.Setup error) h = h
 at_setup old new named (stops.Text error) h = absurd h
 at_setup old new named stops.Memory h = inl h
 
 pub at_filter : (old new : StoreSeen) (name : List ℕ) (stop : Stop)
     → StopsAtText filter_of old new name stop
-    → (start : StoreSeen) (named : Named) (setup : Setup) → ReadTexts start old 1
-    → HasSetup start.held named setup → filter_for named.command setup ≡ Some name
+    → (start : StoreSeen) (named : Named) (text : List ℕ) (setup : Setup)
+    → ReadTexts start old (text_entry named.setup text ∷ [])
+    → HasSetup start.held named text setup → filter_for named.command setup ≡ Some name
     → Stops start new named stop
-at_filter old new name stops.Unread h start named setup texts has is =
+at_filter old new name stops.Unread h start named text setup texts has is =
     inr (inl (record {
       setup = setup;
+      text = text;
       has = has;
       name = name;
       names = is;
-      unread = unread_next start old new 1 name texts h;
+      unread = unread_next start old new (text_entry named.setup text ∷ []) name texts h;
     }))
-at_filter old new name (stops.Setup error) h start named setup texts has is = absurd h
-at_filter old new name (stops.Text error) h start named setup texts has is =
+at_filter old new name (stops.Setup error) h start named text setup texts has is = absurd h
+at_filter old new name (stops.Text error) h start named text setup texts has is =
     inl (record {
       setup = setup;
+      text = text;
       has = has;
       name = name;
       names = is;
-      refused = refuses_earlier filter_of is_text_want start old new name error texts.unfailed h;
+      refused = refuses_earlier filter_of is_text_want start old new
+          (text_entry named.setup text ∷ []) name error texts h;
     })
-at_filter old new name stops.Memory h start named setup texts has is =
-    inl (unfailed_then start old new texts.unfailed h)
+at_filter old new name stops.Memory h start named text setup texts has is =
+    inl (ran_out_later start old new (text_entry named.setup text ∷ []) texts h)
 
 pub at_ticks : (old new : StoreSeen) (name : List ℕ) (stop : Stop)
     → StopsAtText moments_of old new name stop
-    → (start : StoreSeen) (named : Named) (job : Job) → IsLoaded start old named job
+    → (start : StoreSeen) (named : Named) (texts : Texts) (job : Job)
+    → IsLoaded start old named texts job
     → ticks_for named.command job.setup ≡ Some name → Stops start new named stop
-at_ticks old new name stops.Unread h start named job loaded is =
+at_ticks old new name stops.Unread h start named texts job loaded is =
     inr (inr (inl (record {
       job = job;
+      texts = texts;
       has = loaded.job_is;
       name = name;
       names = is;
-      unread = unread_next start old new (first_texts named.command job.setup) name loaded.texts h;
+      unread = unread_next start old new (first_texts named job.setup texts) name loaded.read_is h;
     })))
-at_ticks old new name (stops.Setup error) h start named job loaded is = absurd h
-at_ticks old new name (stops.Text error) h start named job loaded is =
+at_ticks old new name (stops.Setup error) h start named texts job loaded is = absurd h
+at_ticks old new name (stops.Text error) h start named texts job loaded is =
     inr (inl (record {
       job = job;
+      texts = texts;
       has = loaded.job_is;
       name = name;
       names = is;
-      refused = refuses_earlier moments_of is_text_want start old new name error
-          loaded.texts.unfailed h;
+      refused = refuses_earlier moments_of is_text_want start old new
+          (first_texts named job.setup texts) name error loaded.read_is h;
     }))
-at_ticks old new name stops.Memory h start named job loaded is =
-    inl (unfailed_then start old new loaded.texts.unfailed h)
+at_ticks old new name stops.Memory h start named texts job loaded is =
+    inl (ran_out_later start old new (first_texts named job.setup texts) loaded.read_is h)
 
 pub at_schedule : (old new : StoreSeen) (name : List ℕ) (job : Job) (stop : Stop)
     → StopsAtText (lines_for job) old new name stop
-    → (start : StoreSeen) (named : Named) → has_schedule named.command ≡ true
-    → named.schedule ≡ name → IsLoaded start old named job → Stops start new named stop
-at_schedule old new name job stops.Unread h start named command called loaded =
+    → (start : StoreSeen) (named : Named) (texts : Texts) → has_schedule named.command ≡ true
+    → named.schedule ≡ name → IsLoaded start old named texts job → Stops start new named stop
+at_schedule old new name job stops.Unread h start named texts command called loaded =
     inr (inr (inr (record {
       command = command;
       job = job;
+      texts = texts;
       has = loaded.job_is;
-      unread = unread_next start old new (first_texts named.command job.setup) named.schedule
-          loaded.texts (subst (λ (n : List ℕ). CantRead old new n) (sym called) h);
+      unread = unread_next start old new (first_texts named job.setup texts) named.schedule
+          loaded.read_is (subst (λ (n : List ℕ). CantRead old new n) (sym called) h);
     })))
-at_schedule old new name job (stops.Setup error) h start named command called loaded = absurd h
-at_schedule old new name job (stops.Text error) h start named command called loaded =
+at_schedule old new name job (stops.Setup error) h start named texts command called loaded =
+    absurd h
+at_schedule old new name job (stops.Text error) h start named texts command called loaded =
     inr (inr (record {
       command = command;
       job = job;
+      texts = texts;
       has = loaded.job_is;
-      refused = refuses_earlier (lines_for job) is_text_want start old new named.schedule error
-          loaded.texts.unfailed
-          (subst (λ (n : List ℕ). Refuses (lines_for job) is_text_want old new n error)
+      refused = refuses_earlier (lines_for job) is_text_want start old new
+          (first_texts named job.setup texts) named.schedule error loaded.read_is
+          (subst (λ (n : List ℕ). Refuses (lines_for job) is_text_want [] old new n error)
           (sym called) h);
     }))
-at_schedule old new name job stops.Memory h start named command called loaded =
-    inl (unfailed_then start old new loaded.texts.unfailed h)
+at_schedule old new name job stops.Memory h start named texts command called loaded =
+    inl (ran_out_later start old new (first_texts named job.setup texts) loaded.read_is h)
 
 -- what is meant for reading is meant then
 pub meant_later : (old new : StoreSeen) (command : Option Named) → OnlyReads old new
@@ -180,19 +202,21 @@ meant_later old new command reads all =
 -- ---- a text that can't be read
 
 -- comes only where reading failed
-next_rose : (old new : StoreSeen) (many : ℕ) (name : List ℕ) → CantReadNext old new many name
-    → RoseBy 1 old.read_faults new.read_faults
-next_rose old new many name h =
-    rose_earlier 1 old h.before new h.texts.unfailed.only h.unread.rose
+next_rose : (old new : StoreSeen) (texts : List Entry) (name : List ℕ)
+    → CantReadNext old new texts name → RoseBy 1 old.read_faults new.read_faults
+next_rose old new texts name h =
+    rose_earlier 1 old h.before new h.read_is.unfailed.only h.unread.rose
 
 pub unread_rose : (old new : StoreSeen) (named : Named) → CantReadText old new named
     → RoseBy 1 old.read_faults new.read_faults
-unread_rose old new named (inl setup) = next_rose old new 0 named.setup setup
-unread_rose old new named (inr (inl filter)) = next_rose old new 1 filter.name filter.unread
+unread_rose old new named (inl setup) = next_rose old new [] named.setup setup
+unread_rose old new named (inr (inl filter)) =
+    next_rose old new (text_entry named.setup filter.text ∷ []) filter.name filter.unread
 unread_rose old new named (inr (inr (inl ticks))) =
-    next_rose old new (first_texts named.command ticks.job.setup) ticks.name ticks.unread
+    next_rose old new (first_texts named ticks.job.setup ticks.texts) ticks.name ticks.unread
 unread_rose old new named (inr (inr (inr schedule))) =
-    next_rose old new (first_texts named.command schedule.job.setup) named.schedule schedule.unread
+    next_rose old new (first_texts named schedule.job.setup schedule.texts) named.schedule
+    schedule.unread
 
 -- what is found if a text stops the command
 pub found_of : (old new : StoreSeen) (named : Named) (answer : Result Finding Stop)
@@ -214,9 +238,9 @@ cut_of command old new named (Err (stops.Setup error)) is reads h = tt
 cut_of command old new named (Err (stops.Text error)) is reads h = tt
 cut_of command old new named (Err stops.Memory) is reads h = record { reads = reads; cause = by h }
   where
-    by : NoReadFailed old new ⊎ IsAsked old.held named → NoReadFailed old new
+    by : RanOut old new ⊎ IsAsked old.held named → RanOut old new
         ⊎ ((n : Named) × (command ≡ Some n) × IsAsked old.held n)
-    by (inl unfailed) = inl unfailed
+    by (inl out) = inl out
     by (inr asked) = inr (named, is, asked)
 
 pub ready_of : (answer : Result Finding Stop) → IfOk answer IsReady
@@ -289,12 +313,14 @@ saves_meant old new (Some named) (finding.Ran rings setup report forwards) untol
     let head = h.0.headline in
     subst (λ (names : List (List ℕ)). AllMeant old.to_save names)
     (report_names old new named setup report forwards h.0 h.2)
-    (outputs_meant old.held old.to_save named head.job.setup untold all head.job_is.setup)
+    (outputs_meant old.held old.to_save named head.texts.setup head.job.setup untold all
+    head.job_is.setup)
 saves_meant old new (Some named) (finding.Sent setup sending) untold all h =
     let sent = h.0 in
     subst (λ (s : Setup). AllMeant old.to_save (saved_for Send s)) sent.setup_is
     (subst (λ (c : Command). AllMeant old.to_save (saved_for c sent.job.setup)) sent.command
-    (outputs_meant old.held old.to_save named sent.job.setup untold all sent.job_is.setup))
+    (outputs_meant old.held old.to_save named sent.texts.setup sent.job.setup untold all
+    sent.job_is.setup))
 
 -- ---- when it was searched for
 

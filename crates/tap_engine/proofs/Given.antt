@@ -1,160 +1,252 @@
 -- The record of what sources gave: over several texts, and over the captures of a run.
-use Rattle.std.proofs.Common.{◌≡◌, ℕ, ◌+◌, List, [], ◌∷◌, ◌++◌, length, Option, None, Some, refl, sym}
-use Rattle.std.proofs.Common.{ap, ◌∙◌, append_assoc, append-nil, length-append}
-use Rattle.std.specs.Prelude.{map, unwrap_or}
+use Rattle.std.proofs.Common.{◌≡◌, ℕ, ◌+◌, ◌<◌, Bool, true, false, List, [], ◌∷◌, ◌++◌, length, take, get_or}
+use Rattle.std.proofs.Common.{Option, None, Some, refl, sym, ap, ◌∙◌, append_assoc, append-nil, arith, map, subst}
 use Rattle.capture_file.specs.declared.cpu_end.CpuEnd.{CpuEnd}
-use Rattle.capture_reading.specs.Sources.{AllGave, GaveIfThere}
+use Rattle.capture_file.specs.declared.cpu_end.CpuEnd.TheVariants.{Whole, Fault, Damaged}
+use Rattle.capture_reading.specs.Sources.{AllGave, Gave}
 use Rattle.setup_text.specs.declared.cpu_setups.CpuSetup.{CpuSetup}
 use Rattle.tap_outside.specs.Contents.{Contents}
-use Rattle.tap_outside.specs.Seen.{NoReadFailed, SourceSeen, StoreSeen}
-use Rattle.tap_reading.specs.Fronts.{TookText}
-use Rattle.tap_engine.specs.Given.{AreGiven, ReadTexts, given_entries, missing_entries}
-use Rattle.tap_engine.specs.inside.Sources.{AreFetched, givens}
-use Rattle.tap_engine.proofs.Counted.{unfailed_none}
-use Rattle.tap_engine.proofs.Fetched.{map_more, unfailed_then}
+use Rattle.tap_outside.specs.Records.{Took, opened_in}
+use Rattle.tap_outside.specs.Seen.{Entry, OnlyReads, SourceSeen, SourcesSeen, StoreSeen, and_closed, and_opened}
+use Rattle.tap_outside.specs.Seen.{entry_of}
+use Rattle.tap_outside.specs.Seen.{missed_entry}
+use Rattle.tap_outside.proofs.Taken.{entry_failed, entry_unfailed, opened_then, took_as, took_none, took_then}
+use Rattle.tap_reading.specs.Fronts.{ReadTexts}
+use Rattle.tap_engine.specs.Given.{AreEntries, AreGiven, capture_entry, given_entries, has_failed, missing_entries}
+use Rattle.tap_engine.specs.Faults.{IsCounted}
+use Rattle.tap_engine.specs.inside.Sources.{AreFetched, Fetches, IsFresh, entries_of, missing_in, opened_files}
+use Rattle.tap_engine.specs.inside.Sources.{with_closed}
+use Rattle.tap_outside.proofs.Kept.{OnlyReads-none}
+use Rattle.tap_engine.proofs.Counted.{counts_none, unfailed_none}
+use Rattle.tap_engine.proofs.Fetched.{map_more, one_more, unfailed_then}
 
 -- ---- texts, one after the other
+
+pub read_none : (a : StoreSeen) → ReadTexts a a []
+read_none a = record { unfailed = unfailed_none a; took = took_none a.sources }
+
+pub read_then : (a b c : StoreSeen) (xs ys : List Entry) → ReadTexts a b xs → ReadTexts b c ys
+    → ReadTexts a c (xs ++ ys)
+read_then a b c xs ys h k = record {
+  unfailed = unfailed_then a b c h.unfailed k.unfailed;
+  took = took_then a.sources b.sources c.sources xs ys h.took k.took;
+}
+
+-- ---- the captures that are fetched
 
 grows : {A : Type 0} (a b c x y : List A) → b ≡ a ++ x → c ≡ b ++ y → c ≡ a ++ (x ++ y)
 grows a b c x y first then = then ∙ ap (λ t. t ++ y) first ∙ append_assoc a x y
 
-pub read_none : (a : StoreSeen) → ReadTexts a a 0
-read_none a = record {
-  unfailed = unfailed_none a;
-  texts = [];
-  count = refl;
-  record_is = sym (append-nil a.closed);
+pub fetches_nothing : (a : SourcesSeen) → Fetches a a [] []
+fetches_nothing a =
+    record { closed_is = sym (append-nil a.closed); opened_is = sym (append-nil a.opened) }
+
+pub fetched_one : (a b : SourcesSeen) (cpu : CpuSetup) (source : SourceSeen)
+    → b ≡ and_opened a cpu.file → Fetches a b (cpu ∷ []) (Some source ∷ [])
+fetched_one a b cpu source opened = record {
+  closed_is = ap (λ (s : SourcesSeen). s.closed) opened ∙ sym (append-nil a.closed);
+  opened_is = ap (λ (s : SourcesSeen). s.opened) opened;
 }
 
-pub read_one : (a b : StoreSeen) → NoReadFailed a b → TookText a b → ReadTexts a b 1
-read_one a b unfailed took = record {
-  unfailed = unfailed;
-  texts = took.text ∷ [];
-  count = refl;
-  record_is = took.closed_is;
+pub fetched_none : (a b : SourcesSeen) (cpu : CpuSetup)
+    → b ≡ and_closed a (missed_entry cpu.file) → Fetches a b (cpu ∷ []) (None ∷ [])
+fetched_none a b cpu missed = record {
+  closed_is = ap (λ (s : SourcesSeen). s.closed) missed;
+  opened_is = ap (λ (s : SourcesSeen). s.opened) missed ∙ sym (append-nil a.opened);
 }
 
-pub read_then : (m n : ℕ) (a b c : StoreSeen) → ReadTexts a b m → ReadTexts b c n
-    → ReadTexts a c (m + n)
-read_then m n a b c h k = record {
-  unfailed = unfailed_then a b c h.unfailed k.unfailed;
-  texts = h.texts ++ k.texts;
-  count = length-append h.texts k.texts ∙ ap (λ l. l + length k.texts) h.count
-      ∙ ap (λ l. m + l) k.count;
-  record_is = grows a.closed b.closed c.closed h.texts k.texts h.record_is k.record_is;
+missing_then : (held : Option Contents) (cpus later : List CpuSetup)
+    (sources more : List (Option SourceSeen)) → AreFetched held cpus sources
+    → missing_entries (cpus ++ later) (sources ++ more)
+    ≡ missing_entries cpus sources ++ missing_entries later more
+missing_then held [] later [] more fetched = refl
+missing_then held [] later (s ∷ sources) more fetched = absurd fetched
+missing_then held (cpu ∷ cpus) later [] more fetched = absurd fetched
+missing_then held (cpu ∷ cpus) later (None ∷ sources) more fetched =
+    ap (λ rest. missed_entry cpu.file ∷ rest) (missing_then held cpus later sources more fetched)
+missing_then held (cpu ∷ cpus) later (Some s ∷ sources) more fetched =
+    missing_then held cpus later sources more fetched.1
+
+files_then : (held : Option Contents) (cpus later : List CpuSetup)
+    (sources more : List (Option SourceSeen)) → AreFetched held cpus sources
+    → opened_files (cpus ++ later) (sources ++ more)
+    ≡ opened_files cpus sources ++ opened_files later more
+files_then held [] later [] more fetched = refl
+files_then held [] later (s ∷ sources) more fetched = absurd fetched
+files_then held (cpu ∷ cpus) later [] more fetched = absurd fetched
+files_then held (cpu ∷ cpus) later (None ∷ sources) more fetched =
+    files_then held cpus later sources more fetched
+files_then held (cpu ∷ cpus) later (Some s ∷ sources) more fetched =
+    ap (λ rest. cpu.file ∷ rest) (files_then held cpus later sources more fetched.1)
+
+fetches_then : (held : Option Contents) (cpus later : List CpuSetup)
+    (sources more : List (Option SourceSeen)) (a b c : SourcesSeen) → AreFetched held cpus sources
+    → Fetches a b cpus sources → Fetches b c later more
+    → Fetches a c (cpus ++ later) (sources ++ more)
+fetches_then held cpus later sources more a b c fetched first second = record {
+  closed_is = grows a.closed b.closed c.closed _ _ first.closed_is second.closed_is
+      ∙ ap (λ t. a.closed ++ t) (sym (missing_then held cpus later sources more fetched));
+  opened_is = grows a.opened b.opened c.opened _ _ first.opened_is second.opened_is
+      ∙ ap (λ t. a.opened ++ t) (sym (files_then held cpus later sources more fetched));
 }
-
--- ---- the captures that are fetched, and those that are closed
-
-missing_then : {A : Type 0} (xs ys : List (Option A))
-    → missing_entries (xs ++ ys) ≡ missing_entries xs ++ missing_entries ys
-missing_then [] ys = refl
-missing_then (None ∷ xs) ys = ap (λ rest. [] ∷ rest) (missing_then xs ys)
-missing_then (Some x ∷ xs) ys = missing_then xs ys
 
 -- one more was fetched
 pub fetches_one : {Input : Type 0} (seen : Option Input → Option SourceSeen)
-    (sources more : List (Option Input)) (source : Option Input) (a b c : List (List ℕ))
-    → more ≡ sources ++ source ∷ [] → b ≡ a ++ missing_entries (map seen sources)
-    → c ≡ b ++ missing_entries (seen source ∷ []) → c ≡ a ++ missing_entries (map seen more)
-fetches_one seen sources more source a b c added before here =
+    (held : Option Contents) (cpus : List CpuSetup) (at : ℕ) (cpu : CpuSetup)
+    (sources more : List (Option Input)) (source : Option Input) (a b c : SourcesSeen)
+    → cpu ≡ get_or cpus at cpu → at < length cpus → more ≡ sources ++ source ∷ []
+    → AreFetched held (take at cpus) (map seen sources)
+    → Fetches a b (take at cpus) (map seen sources) → Fetches b c (cpu ∷ []) (seen source ∷ [])
+    → Fetches a c (take (at + 1) cpus) (map seen more)
+fetches_one seen held cpus at cpu sources more source a b c is less added fetched before here =
     let mapped = ap (λ xs. map seen xs) added ∙ map_more seen sources source in
-    rw (mapped, missing_then (map seen sources) (seen source ∷ []))
-    (grows a b c (missing_entries (map seen sources)) (missing_entries (seen source ∷ [])) before
-    here)
+    rw (one_more cpus at cpu is less, mapped)
+    (fetches_then held (take at cpus) (cpu ∷ []) (map seen sources) (seen source ∷ []) a b c fetched
+    before here)
+
+-- none was fetched yet
+pub fetch_starts : {Input : Type 0} (seen : Option Input → Option SourceSeen)
+    (held : Option Contents) (cpus : List CpuSetup) (items : List (Option Input)) (a : StoreSeen)
+    → items ≡ []
+    → OnlyReads a a × AreFetched held (take 0 cpus) (map seen items)
+    × IsCounted a a (missing_in (map seen items))
+    × Fetches a.sources a.sources (take 0 cpus) (map seen items)
+fetch_starts seen held cpus items a none =
+    rw none (OnlyReads-none a, tt, counts_none 0 a refl, fetches_nothing a.sources)
+
+-- ---- those that are closed
+
+-- nothing was closed
+pub closes_nothing : (a : SourcesSeen) → a ≡ with_closed a []
+closes_nothing a =
+    ap (λ (entries : List Entry). record a { closed = entries }) (sym (append-nil a.closed))
 
 -- one more was closed, of those that are left
 given_first : (source : Option SourceSeen) (rest : List (Option SourceSeen))
-    → given_entries (givens (source ∷ rest))
-    ≡ given_entries (givens (source ∷ [])) ++ given_entries (givens rest)
+    → given_entries (entries_of (source ∷ rest))
+    ≡ given_entries (entries_of (source ∷ [])) ++ given_entries (entries_of rest)
 given_first None rest = refl
 given_first (Some source) rest = refl
 
 pub closes_given : {Input : Type 0} (seen : Option Input → Option SourceSeen)
-    (left rest : List (Option Input)) (source : Option Input) (all b c : List (List ℕ))
-    → left ≡ source ∷ rest → b ++ given_entries (givens (map seen left)) ≡ all
-    → c ≡ b ++ given_entries (givens (seen source ∷ []))
-    → c ++ given_entries (givens (map seen rest)) ≡ all
+    (left rest : List (Option Input)) (source : Option Input) (all b c : SourcesSeen)
+    → left ≡ source ∷ rest → with_closed b (given_entries (entries_of (map seen left))) ≡ all
+    → c ≡ with_closed b (given_entries (entries_of (seen source ∷ [])))
+    → with_closed c (given_entries (entries_of (map seen rest))) ≡ all
 closes_given seen left rest source all b c is before here =
-    let one = given_entries (givens (seen source ∷ [])) in
-    let last = given_entries (givens (map seen rest)) in
-    ap (λ t. t ++ last) here ∙ append_assoc b one last
-    ∙ ap (λ t. b ++ t) (sym (given_first (seen source) (map seen rest)))
-    ∙ ap (λ xs. b ++ given_entries (givens (map seen xs))) (sym is) ∙ before
+    let one = given_entries (entries_of (seen source ∷ [])) in
+    let last = given_entries (entries_of (map seen rest)) in
+    ap (λ (s : SourcesSeen). with_closed s last) here
+    ∙ ap (λ (entries : List Entry). record b { closed = entries }) (append_assoc b.closed one last)
+    ∙ ap (λ (t : List Entry). with_closed b t) (sym (given_first (seen source) (map seen rest)))
+    ∙ ap (λ xs. with_closed b (given_entries (entries_of (map seen xs)))) (sym is) ∙ before
 
-pub closes_all : (given now before : List (List ℕ)) → now ++ [] ≡ before ++ given
-    → now ≡ before ++ given
-closes_all given now before is = sym (append-nil now) ∙ is
+pub closes_all : (now all : SourcesSeen) → with_closed now [] ≡ all → now ≡ all
+closes_all now all is = closes_nothing now ∙ is
 
 -- ---- the captures of a run
 
 pub two : {A : Type 0} (x y : A) (xs ys : List A) → x ≡ y → xs ≡ ys → x ∷ xs ≡ y ∷ ys
 two x y xs ys e f = ap (λ z. z ∷ xs) e ∙ ap (λ zs. y ∷ zs) f
 
--- those that couldn't be fetched are there in the end as in the beginning
-missing_same : (old new : List (Option SourceSeen)) (bytes : List (List ℕ)) (ends : List CpuEnd)
-    → AllGave old new bytes ends → missing_entries old ≡ missing_entries (givens new)
-missing_same [] [] [] [] gave = refl
-missing_same [] [] [] (end ∷ ends) gave = absurd gave
-missing_same [] [] (b ∷ bytes) ends gave = absurd gave
-missing_same [] (n ∷ new) bytes ends gave = absurd gave
-missing_same (o ∷ old) [] bytes ends gave = absurd gave
-missing_same (o ∷ old) (n ∷ new) [] ends gave = absurd gave
-missing_same (o ∷ old) (n ∷ new) (b ∷ bytes) [] gave = absurd gave
-missing_same (None ∷ old) (None ∷ new) (b ∷ bytes) (end ∷ ends) gave =
-    ap (λ rest. [] ∷ rest) (missing_same old new bytes ends gave.1)
-missing_same (None ∷ old) (Some n ∷ new) (b ∷ bytes) (end ∷ ends) gave = absurd gave.0
-missing_same (Some o ∷ old) (None ∷ new) (b ∷ bytes) (end ∷ ends) gave = absurd gave.0
-missing_same (Some o ∷ old) (Some n ∷ new) (b ∷ bytes) (end ∷ ends) gave =
-    missing_same old new bytes ends gave.1
-
 -- a source that was fresh gave these bytes, and no others
 gave_all : (first given bytes : List ℕ) → first ≡ [] → given ≡ first ++ bytes → given ≡ bytes
 gave_all first given bytes fresh is = is ∙ ap (λ b. b ++ bytes) fresh
 
-bytes_given : (held : Option Contents) (cpus : List CpuSetup) (old new : List (Option SourceSeen))
+-- so that its entry is that of its capture
+entry_given : (held : Option Contents) (cpu : CpuSetup) (o n : SourceSeen) (bytes : List ℕ)
+    (end : CpuEnd) → IsFresh held cpu.file o → Gave o n bytes end
+    → entry_of n ≡ capture_entry cpu.file true bytes end
+entry_given held cpu o n bytes Whole fresh gave =
+    entry_unfailed n cpu.file bytes (gave.name_is ∙ fresh.named)
+    (gave_all o.given n.given bytes fresh.unread gave.given_is) (gave.faultless ∙ fresh.faultless)
+entry_given held cpu o n bytes (Damaged damage) fresh gave =
+    entry_unfailed n cpu.file bytes (gave.name_is ∙ fresh.named)
+    (gave_all o.given n.given bytes fresh.unread gave.given_is) (gave.faultless ∙ fresh.faultless)
+entry_given held cpu o n bytes Fault fresh gave =
+    entry_failed n cpu.file bytes (gave.name_is ∙ fresh.named)
+    (gave_all o.given n.given bytes fresh.unread gave.given_is)
+    (let none = fresh.faultless in let rose = gave.fault in omega (arith, none, rose))
+
+-- what a run's sources were and are: those that are missing stay so, and the others gave their
+-- entries
+record AreClosed (cpus : List CpuSetup) (old new : List (Option SourceSeen))
+    (bytes : List (List ℕ)) (ends : List CpuEnd) : Type 0 where
+  missing : missing_entries cpus old ≡ missing_entries cpus (entries_of new)
+  unopened : opened_in (missing_entries cpus (entries_of new)) ≡ []
+  opened : opened_files cpus old ≡ opened_in (given_entries (entries_of new))
+  entries : AreEntries cpus bytes ends (entries_of new)
+
+are_closed : (held : Option Contents) (cpus : List CpuSetup) (old new : List (Option SourceSeen))
     (bytes : List (List ℕ)) (ends : List CpuEnd)
-    → AreFetched held cpus old → AllGave old new bytes ends
-    → bytes ≡ map (λ source. unwrap_or source []) (givens new)
-bytes_given held cpus [] [] [] [] fetched gave = refl
-bytes_given held cpus [] [] [] (end ∷ ends) fetched gave = absurd gave
-bytes_given held cpus [] [] (b ∷ bytes) ends fetched gave = absurd gave
-bytes_given held cpus [] (n ∷ new) bytes ends fetched gave = absurd gave
-bytes_given held cpus (o ∷ old) [] bytes ends fetched gave = absurd gave
-bytes_given held cpus (o ∷ old) (n ∷ new) [] ends fetched gave = absurd gave
-bytes_given held cpus (o ∷ old) (n ∷ new) (b ∷ bytes) [] fetched gave = absurd gave
-bytes_given held [] (o ∷ old) (n ∷ new) (b ∷ bytes) (end ∷ ends) fetched gave = absurd fetched
-bytes_given held (cpu ∷ cpus) (None ∷ old) (None ∷ new) (b ∷ bytes) (end ∷ ends) fetched gave =
-    two b [] bytes _ gave.0.0 (bytes_given held cpus old new bytes ends fetched gave.1)
-bytes_given held (cpu ∷ cpus) (None ∷ old) (Some n ∷ new) (b ∷ bytes) (end ∷ ends) fetched gave =
+    → AreFetched held cpus old → AllGave old new bytes ends → AreClosed cpus old new bytes ends
+are_closed held [] [] [] [] [] fetched gave =
+    record { missing = refl; unopened = refl; opened = refl; entries = tt }
+are_closed held (cpu ∷ cpus) [] new bytes ends fetched gave = absurd fetched
+are_closed held cpus [] [] [] (end ∷ ends) fetched gave = absurd gave
+are_closed held cpus [] [] (b ∷ bytes) ends fetched gave = absurd gave
+are_closed held cpus [] (n ∷ new) bytes ends fetched gave = absurd gave
+are_closed held cpus (o ∷ old) [] bytes ends fetched gave = absurd gave
+are_closed held cpus (o ∷ old) (n ∷ new) [] ends fetched gave = absurd gave
+are_closed held cpus (o ∷ old) (n ∷ new) (b ∷ bytes) [] fetched gave = absurd gave
+are_closed held [] (o ∷ old) (n ∷ new) (b ∷ bytes) (end ∷ ends) fetched gave = absurd fetched
+are_closed held (cpu ∷ cpus) (None ∷ old) (None ∷ new) (b ∷ bytes) (end ∷ ends) fetched gave =
+    let rest = are_closed held cpus old new bytes ends fetched gave.1 in
+    record {
+      missing = ap (λ entries. missed_entry cpu.file ∷ entries) rest.missing;
+      unopened = rest.unopened;
+      opened = rest.opened;
+      entries = (gave.0, rest.entries);
+    }
+are_closed held (cpu ∷ cpus) (None ∷ old) (Some n ∷ new) (b ∷ bytes) (end ∷ ends) fetched gave =
     absurd gave.0
-bytes_given held (cpu ∷ cpus) (Some o ∷ old) (None ∷ new) (b ∷ bytes) (end ∷ ends) fetched gave =
+are_closed held (cpu ∷ cpus) (Some o ∷ old) (None ∷ new) (b ∷ bytes) (end ∷ ends) fetched gave =
     absurd gave.0
-bytes_given held (cpu ∷ cpus) (Some o ∷ old) (Some n ∷ new) (b ∷ bytes) (end ∷ ends) fetched gave =
-    two b n.given bytes _ (sym (gave_all o.given n.given b fetched.0.unread gave.0.given_is))
-    (bytes_given held cpus old new bytes ends fetched.1 gave.1)
+are_closed held (cpu ∷ cpus) (Some o ∷ old) (Some n ∷ new) (b ∷ bytes) (end ∷ ends) fetched gave =
+    let rest = are_closed held cpus old new bytes ends fetched.1 gave.1 in
+    let entry = entry_given held cpu o n b end fetched.0 gave.0 in
+    record {
+      missing = rest.missing;
+      unopened = rest.unopened;
+      opened = two cpu.file n.name _ _ (sym (gave.0.name_is ∙ fetched.0.named)) rest.opened;
+      entries = (entry, rest.entries);
+    }
 
 pub run_given : (held : Option Contents) (cpus : List CpuSetup) (old new : List (Option SourceSeen))
-    (bytes : List (List ℕ)) (ends : List CpuEnd) (a b c : List (List ℕ))
-    → AreFetched held cpus old → AllGave old new bytes ends
-    → b ≡ a ++ missing_entries old → c ≡ b ++ given_entries (givens new) → AreGiven a c bytes
-run_given held cpus old new bytes ends a b c fetched gave missed closed = record {
-  sources = givens new;
-  bytes_are = bytes_given held cpus old new bytes ends fetched gave;
-  record_is = grows a b c (missing_entries (givens new)) (given_entries (givens new))
-      (missed ∙ ap (λ t. a ++ t) (missing_same old new bytes ends gave)) closed;
-}
+    (bytes : List (List ℕ)) (ends : List CpuEnd) (a b c : SourcesSeen)
+    → AreFetched held cpus old → AllGave old new bytes ends → Fetches a b cpus old
+    → c ≡ with_closed b (given_entries (entries_of new)) → AreGiven a c cpus bytes ends
+run_given held cpus old new bytes ends a b c fetched gave opened closed =
+    let are = are_closed held cpus old new bytes ends fetched gave in
+    let missing = missing_entries cpus (entries_of new) in
+    let given = given_entries (entries_of new) in
+    record {
+      sources = entries_of new;
+      entries = are.entries;
+      took = record {
+        closed_is = grows a.closed b.closed c.closed missing given
+            (opened.closed_is ∙ ap (λ t. a.closed ++ t) are.missing)
+            (ap (λ (s : SourcesSeen). s.closed) closed);
+        opened_is = ap (λ (s : SourcesSeen). s.opened) closed ∙ opened.opened_is
+            ∙ ap (λ t. a.opened ++ t) (are.opened ∙ ap (λ t. t ++ opened_in given) (sym are.unopened)
+            ∙ sym (opened_then missing given));
+      };
+    }
 
--- the first of them, where it is the only one
-pub first_given : (held : Option Contents) (cpu : CpuSetup) (old new : Option SourceSeen)
-    (bytes : List ℕ) (end : CpuEnd) (a b c : List (List ℕ))
-    → AreFetched held (cpu ∷ []) (old ∷ []) → GaveIfThere old new bytes end
-    → b ≡ a ++ missing_entries (old ∷ []) → c ≡ b ++ given_entries (givens (new ∷ []))
-    → c ≡ a ++ bytes ∷ []
-first_given held cpu None None bytes end a b c fetched gave missed closed =
-    closed ∙ append-nil b ∙ missed ∙ ap (λ g. a ++ g ∷ []) (sym gave.0)
-first_given held cpu None (Some n) bytes end a b c fetched gave missed closed = absurd gave
-first_given held cpu (Some o) None bytes end a b c fetched gave missed closed = absurd gave
-first_given held cpu (Some o) (Some n) bytes end a b c fetched gave missed closed =
-    closed ∙ ap (λ t. t ++ n.given ∷ []) (missed ∙ append-nil a)
-    ∙ ap (λ g. a ++ g ∷ []) (gave_all o.given n.given bytes fetched.0.unread gave.given_is)
+-- the only one of them
+pub one_given : (a c : SourcesSeen) (cpu : CpuSetup) (bytes : List ℕ) (end : CpuEnd)
+    → AreGiven a c (cpu ∷ []) (bytes ∷ []) (end ∷ [])
+    → (opened : Bool) × Took a c (capture_entry cpu.file opened bytes end ∷ [])
+one_given a c cpu bytes end g = by g.sources g.entries g.took where
+  missed : bytes ≡ [] → end ≡ Fault → missed_entry cpu.file ≡ capture_entry cpu.file false bytes end
+  missed none is = ap (λ b. capture_entry cpu.file false b Fault) (sym none)
+      ∙ ap (λ e. capture_entry cpu.file false bytes e) (sym is)
+
+  by : (sources : List (Option Entry)) → AreEntries (cpu ∷ []) (bytes ∷ []) (end ∷ []) sources
+      → Took a c (missing_entries (cpu ∷ []) sources ++ given_entries sources)
+      → (opened : Bool) × Took a c (capture_entry cpu.file opened bytes end ∷ [])
+  by [] entries took = absurd entries
+  by (None ∷ []) entries took = (false, took_as a c _ _ (missed entries.0.0 entries.0.1) took)
+  by (Some entry ∷ []) entries took = (true, took_as a c _ _ entries.0 took)
+  by (None ∷ source ∷ sources) entries took = absurd entries.1
+  by (Some entry ∷ source ∷ sources) entries took = absurd entries.1

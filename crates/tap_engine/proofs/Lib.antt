@@ -15,4 +15,5 @@ pub mod InnerErrors
 pub mod Worked
 pub mod Answered
 pub mod Printed
+pub mod Returned
 pub mod Forwarded

@@ -17,20 +17,20 @@ use Rattle.setup_text.specs.declared.jobs.Job.{Job}
 use Rattle.run_reports.specs.declared.reports.RunReport.{RunReport}
 use Rattle.setup_text.specs.declared.setups.Setup.{Setup}
 use Rattle.tap_outside.specs.Contents.{Contents}
-use Rattle.tap_outside.specs.Seen.{SourceSeen, StoreSeen}
+use Rattle.tap_outside.specs.Seen.{SourceSeen, SourcesSeen, StoreSeen}
 use Rattle.run_reports.specs.declared.ring_kind.RingKind.{RingKind}
 use Rattle.run_reports.specs.declared.ring_kind.RingKind.TheVariants.{Blocks}
 use Rattle.tap_engine.specs.Commands.{Named, has_schedule, is_threaded, rings_of}
 use Rattle.tap_engine.specs.Faults.{IsCounted}
 use Rattle.tap_engine.specs.Findings.{IsReported, IsSmall, faults_in}
-use Rattle.tap_engine.specs.Given.{AreGiven, given_entries, missing_entries}
+use Rattle.tap_engine.specs.Given.{AreGiven, Texts, given_entries}
 use Rattle.tap_engine.specs.Headline.{AreCaptures, CapturesFor, GivenFor, IsCaptureOf, IsReplayOf}
 use Rattle.tap_engine.specs.Headline.{IsRunOf, rules_for}
 use Rattle.tap_engine.specs.Jobs.{HasLines, HasTicks, IsRead}
 use Rattle.replay_machine.specs.Runs.{report_of}
 use Rattle.run_reports.specs.RingRules.{block_rules, rules_by}
 use Rattle.tap_engine.specs.inside.Replays.{IsReplayedBy, IsReportBy}
-use Rattle.tap_engine.specs.inside.Sources.{AreFetched, faulty_in, givens, missing_in}
+use Rattle.tap_engine.specs.inside.Sources.{AreFetched, Fetches, entries_of, faulty_in, missing_in, with_closed}
 use Rattle.tap_engine.proofs.Ends.{as_many_logs, report_ends, report_members}
 use Rattle.tap_engine.proofs.Counted.{counts_run}
 use Rattle.tap_engine.proofs.Fetched.{bytes_as_many, captures_are, held_same}
@@ -89,19 +89,20 @@ faults_counted held rings job old new bytes ends report a b c fetched gave run =
     counts_run held job.setup.cpus old new bytes ends report.cpus a b c fetched gave
     (report_ends (rules_by rings job.setup.shape) job bytes ends report run)
 
-reported : (old mid new : StoreSeen) (named : Named) (job : Job) (bytes : List (List ℕ))
+reported : (old mid new : StoreSeen) (named : Named) (texts : Texts) (job : Job) (bytes : List (List ℕ))
     (ends : List CpuEnd) (report : RunReport)
     → IsReportBy (rings_of named.command) job bytes ends report
-    → IsRead old mid named job → CapturesFor named.command old.held job.setup bytes ends
-    → GivenFor named.command mid.closed new.closed bytes
-    → IsRunOf named.command old.held named job bytes ends report
+    → IsRead old mid named texts job → CapturesFor named.command old.held job.setup bytes ends
+    → GivenFor named.command mid.sources new.sources job.setup.cpus bytes ends
+    → IsRunOf named.command old.held named job texts.last bytes ends report
     → IsReported old new named job.setup report
-reported old mid new named job bytes ends report run read captures given adds = record {
+reported old mid new named texts job bytes ends report run read captures given adds = record {
   headline = record {
+    texts = texts;
     job = job;
     job_is = read.job_is;
     read = mid;
-    texts = read.texts;
+    read_is = read.read_is;
     bytes = bytes;
     ends = ends;
     captures = captures;
@@ -117,15 +118,15 @@ abbrev pub FetchedBy : StoreSeen → StoreSeen → StoreSeen → List CpuSetup
     → List (Option SourceSeen) → List (Option SourceSeen) → Type 0
 FetchedBy before fetched after cpus old new =
     AreFetched before.held cpus old
-    × (fetched.closed ≡ before.closed ++ missing_entries old)
-    × (after.closed ≡ fetched.closed ++ given_entries (givens new))
+    × Fetches before.sources fetched.sources cpus old
+    × (after.sources ≡ with_closed fetched.sources (given_entries (entries_of new)))
 
-fetched_since : (start old : StoreSeen) (named : Named) (job : Job)
-    (sources : List (Option SourceSeen)) → IsRead start old named job
+fetched_since : (start old : StoreSeen) (named : Named) (texts : Texts) (job : Job)
+    (sources : List (Option SourceSeen)) → IsRead start old named texts job
     → AreFetched old.held job.setup.cpus sources → AreFetched start.held job.setup.cpus sources
-fetched_since start old named job sources read fetched =
+fetched_since start old named texts job sources read fetched =
     subst (λ (held : Option Contents). AreFetched held job.setup.cpus sources)
-    (held_same start old read.texts.unfailed.only) fetched
+    (held_same start old read.read_is.unfailed.only) fetched
 
 -- the run of a command that has a schedule
 scheduled_captures : (held : Option Contents) (setup : Setup) (bytes : List (List ℕ))
@@ -139,62 +140,68 @@ scheduled_captures held setup bytes ends Forward is are = cc
 scheduled_captures held setup bytes ends Send is are = cc
 scheduled_captures held setup bytes ends Make is are = cc
 
-scheduled_run : (held : Option Contents) (named : Named) (job : Job) (bytes : List (List ℕ))
-    (ends : List CpuEnd) (report : RunReport) (command : Command) → has_schedule command ≡ true
-    → IsReplayOf held named job bytes ends report → IsRunOf command held named job bytes ends report
-scheduled_run held named job bytes ends report Replay is run = run
-scheduled_run held named job bytes ends report Replay2 is run = run
-scheduled_run held named job bytes ends report Check is run = cc
-scheduled_run held named job bytes ends report Capture is run = cc
-scheduled_run held named job bytes ends report Forward is run = cc
-scheduled_run held named job bytes ends report Send is run = cc
-scheduled_run held named job bytes ends report Make is run = cc
+scheduled_run : (held : Option Contents) (named : Named) (job : Job) (text : List ℕ)
+    (bytes : List (List ℕ)) (ends : List CpuEnd) (report : RunReport) (command : Command)
+    → has_schedule command ≡ true → IsReplayOf held named job text bytes ends report
+    → IsRunOf command held named job text bytes ends report
+scheduled_run held named job text bytes ends report Replay is run = run
+scheduled_run held named job text bytes ends report Replay2 is run = run
+scheduled_run held named job text bytes ends report Check is run = cc
+scheduled_run held named job text bytes ends report Capture is run = cc
+scheduled_run held named job text bytes ends report Forward is run = cc
+scheduled_run held named job text bytes ends report Send is run = cc
+scheduled_run held named job text bytes ends report Make is run = cc
 
-scheduled_given : (before after bytes : List (List ℕ)) (command : Command)
-    → has_schedule command ≡ true → AreGiven before after bytes
-    → GivenFor command before after bytes
-scheduled_given before after bytes Replay is are = are
-scheduled_given before after bytes Replay2 is are = are
-scheduled_given before after bytes Check is are = cc
-scheduled_given before after bytes Capture is are = cc
-scheduled_given before after bytes Forward is are = cc
-scheduled_given before after bytes Send is are = cc
-scheduled_given before after bytes Make is are = cc
+scheduled_given : (before after : SourcesSeen) (cpus : List CpuSetup) (bytes : List (List ℕ))
+    (ends : List CpuEnd) (command : Command) → has_schedule command ≡ true
+    → AreGiven before after cpus bytes ends → GivenFor command before after cpus bytes ends
+scheduled_given before after cpus bytes ends Replay is are = are
+scheduled_given before after cpus bytes ends Replay2 is are = are
+scheduled_given before after cpus bytes ends Check is are = cc
+scheduled_given before after cpus bytes ends Capture is are = cc
+scheduled_given before after cpus bytes ends Forward is are = cc
+scheduled_given before after cpus bytes ends Send is are = cc
+scheduled_given before after cpus bytes ends Make is are = cc
 
-pub replay_reported : (start old mid new : StoreSeen) (named : Named) (job : Job)
+pub replay_reported : (start old mid new : StoreSeen) (named : Named) (texts : Texts) (job : Job)
     (lines : List Line) (olds news : List (Option SourceSeen)) (report : RunReport)
     → Replays (rings_of named.command) job lines olds news report
     → FetchedBy old mid new job.setup.cpus olds news → has_schedule named.command ≡ true
-    → IsRead start old named job → HasLines start.held named job lines
+    → IsRead start old named texts job → HasLines start.held named job texts.last lines
     → IsReported start new named job.setup report
-replay_reported start old mid new named job lines olds news report r sources is read lines_are =
-    let fetched = fetched_since start old named job olds read sources.0 in
-    reported start old new named job r.replayed.bytes r.replayed.ends report r.replayed.run read
+replay_reported start old mid new named texts job lines olds news report r sources is read
+    lines_are =
+    let fetched = fetched_since start old named texts job olds read sources.0 in
+    reported start old new named texts job r.replayed.bytes r.replayed.ends report r.replayed.run
+    read
     (scheduled_captures start.held job.setup r.replayed.bytes r.replayed.ends named.command is
     (captures_are start.held job.setup.cpus olds news r.replayed.bytes r.replayed.ends fetched
     r.replayed.gave))
-    (scheduled_given old.closed new.closed r.replayed.bytes named.command is
-    (run_given start.held job.setup.cpus olds news r.replayed.bytes r.replayed.ends old.closed
-    mid.closed new.closed fetched r.replayed.gave sources.1 sources.2))
-    (scheduled_run start.held named job r.replayed.bytes r.replayed.ends report named.command is
+    (scheduled_given old.sources new.sources job.setup.cpus r.replayed.bytes r.replayed.ends
+    named.command is
+    (run_given start.held job.setup.cpus olds news r.replayed.bytes r.replayed.ends old.sources
+    mid.sources new.sources fetched r.replayed.gave sources.1 sources.2))
+    (scheduled_run start.held named job texts.last r.replayed.bytes r.replayed.ends report
+    named.command is
     (record { lines = lines; lines_are = lines_are; replay = r.replayed.report_is }))
 
 -- and that of a `make`
-pub make_reported : (old new : StoreSeen) (named : Named) (job : Job) (lines : List Line)
-    (olds news : List (Option SourceSeen)) (report : RunReport)
+pub make_reported : (old new : StoreSeen) (named : Named) (texts : Texts) (job : Job)
+    (lines : List Line) (olds news : List (Option SourceSeen)) (report : RunReport)
     → (r : Replays Blocks job lines olds news report) → named.command ≡ Make
     → CapturesFor Make old.held job.setup r.replayed.bytes r.replayed.ends
-    → IsRead old new named job → HasLines old.held named job lines
+    → IsRead old new named texts job → HasLines old.held named job texts.last lines
     → IsReported old new named job.setup report
-make_reported old new named job lines olds news report r is captures read lines_are =
-    reported old new new named job r.replayed.bytes r.replayed.ends report
+make_reported old new named texts job lines olds news report r is captures read lines_are =
+    reported old new new named texts job r.replayed.bytes r.replayed.ends report
     (subst (λ (c : Command). IsReportBy (rings_of c) job r.replayed.bytes r.replayed.ends report)
     (sym is) r.replayed.run) read
     (subst (λ (c : Command). CapturesFor c old.held job.setup r.replayed.bytes r.replayed.ends)
     (sym is) captures)
-    (subst (λ (c : Command). GivenFor c new.closed new.closed r.replayed.bytes) (sym is) refl)
-    (subst (λ (c : Command). IsRunOf c old.held named job r.replayed.bytes r.replayed.ends report)
-    (sym is)
+    (subst (λ (c : Command). GivenFor c new.sources new.sources job.setup.cpus r.replayed.bytes
+    r.replayed.ends) (sym is) refl)
+    (subst (λ (c : Command). IsRunOf c old.held named job texts.last r.replayed.bytes
+    r.replayed.ends report) (sym is)
     (record {
       lines = lines;
       lines_are = lines_are;
@@ -227,42 +234,44 @@ threaded_captures held setup bytes ends Replay2 is are = cc
 threaded_captures held setup bytes ends Send is are = cc
 threaded_captures held setup bytes ends Make is are = cc
 
-threaded_run : (held : Option Contents) (named : Named) (job : Job) (bytes : List (List ℕ))
-    (ends : List CpuEnd) (report : RunReport) (command : Command) → is_threaded command ≡ true
-    → IsCaptureOf held job report → IsRunOf command held named job bytes ends report
-threaded_run held named job bytes ends report Capture is run = run
-threaded_run held named job bytes ends report Forward is run = run
-threaded_run held named job bytes ends report Check is run = cc
-threaded_run held named job bytes ends report Replay is run = cc
-threaded_run held named job bytes ends report Replay2 is run = cc
-threaded_run held named job bytes ends report Send is run = cc
-threaded_run held named job bytes ends report Make is run = cc
+threaded_run : (held : Option Contents) (named : Named) (job : Job) (text : List ℕ)
+    (bytes : List (List ℕ)) (ends : List CpuEnd) (report : RunReport) (command : Command)
+    → is_threaded command ≡ true → IsCaptureOf held job text report
+    → IsRunOf command held named job text bytes ends report
+threaded_run held named job text bytes ends report Capture is run = run
+threaded_run held named job text bytes ends report Forward is run = run
+threaded_run held named job text bytes ends report Check is run = cc
+threaded_run held named job text bytes ends report Replay is run = cc
+threaded_run held named job text bytes ends report Replay2 is run = cc
+threaded_run held named job text bytes ends report Send is run = cc
+threaded_run held named job text bytes ends report Make is run = cc
 
-threaded_given : (before after bytes : List (List ℕ)) (command : Command)
-    → is_threaded command ≡ true → AreGiven before after bytes
-    → GivenFor command before after bytes
-threaded_given before after bytes Capture is are = are
-threaded_given before after bytes Forward is are = are
-threaded_given before after bytes Check is are = cc
-threaded_given before after bytes Replay is are = cc
-threaded_given before after bytes Replay2 is are = cc
-threaded_given before after bytes Send is are = cc
-threaded_given before after bytes Make is are = cc
+threaded_given : (before after : SourcesSeen) (cpus : List CpuSetup) (bytes : List (List ℕ))
+    (ends : List CpuEnd) (command : Command) → is_threaded command ≡ true
+    → AreGiven before after cpus bytes ends → GivenFor command before after cpus bytes ends
+threaded_given before after cpus bytes ends Capture is are = are
+threaded_given before after cpus bytes ends Forward is are = are
+threaded_given before after cpus bytes ends Check is are = cc
+threaded_given before after cpus bytes ends Replay is are = cc
+threaded_given before after cpus bytes ends Replay2 is are = cc
+threaded_given before after cpus bytes ends Send is are = cc
+threaded_given before after cpus bytes ends Make is are = cc
 
-pub threaded_reported : (start old mid new : StoreSeen) (named : Named) (job : Job)
+pub threaded_reported : (start old mid new : StoreSeen) (named : Named) (texts : Texts) (job : Job)
     (moments : List ℕ) (olds news : List (Option SourceSeen)) (report : RunReport)
     → IsCaptureRun job moments olds news report
     → FetchedBy old mid new job.setup.cpus olds news → is_threaded named.command ≡ true
-    → IsRead start old named job → HasTicks start.held job.setup.ticks moments
+    → IsRead start old named texts job → HasTicks start.held job.setup.ticks texts.last moments
     → IsReported start new named job.setup report
-threaded_reported start old mid new named job moments olds news report r sources is read ticks =
-    let fetched = fetched_since start old named job olds read sources.0 in
-    reported start old new named job r.bytes r.ends report
+threaded_reported start old mid new named texts job moments olds news report r sources is read
+    ticks =
+    let fetched = fetched_since start old named texts job olds read sources.0 in
+    reported start old new named texts job r.bytes r.ends report
     (threaded_worth job r.bytes r.ends report named.command is r.run) read
     (threaded_captures start.held job.setup r.bytes r.ends named.command is
     (captures_are start.held job.setup.cpus olds news r.bytes r.ends fetched r.gave))
-    (threaded_given old.closed new.closed r.bytes named.command is
-    (run_given start.held job.setup.cpus olds news r.bytes r.ends old.closed mid.closed new.closed
+    (threaded_given old.sources new.sources job.setup.cpus r.bytes r.ends named.command is
+    (run_given start.held job.setup.cpus olds news r.bytes r.ends old.sources mid.sources new.sources
     fetched r.gave sources.1 sources.2))
-    (threaded_run start.held named job r.bytes r.ends report named.command is
+    (threaded_run start.held named job texts.last r.bytes r.ends report named.command is
     (record { moments = moments; moments_are = ticks; captured = r.captured }))

@@ -29,6 +29,7 @@ use Rattle.run_reports.specs.declared.ring_kind.RingKind.TheVariants.{Blocks}
 use Rattle.run_reports.specs.RingRules.{block_rules}
 use Rattle.tap_engine.specs.Commands.{Named}
 use Rattle.tap_engine.specs.Findings.{IsReported, IsSmall, fault_at, faults_in}
+use Rattle.tap_engine.specs.Given.{Texts}
 use Rattle.tap_engine.specs.Headline.{AreMade}
 use Rattle.tap_engine.specs.inside.Replays.{IsReplayedBy}
 use Rattle.tap_engine.specs.Jobs.{HasLines, IsRead, LinesFor}
@@ -132,16 +133,16 @@ are_made job lines old left report r old_is whole =
     let both = all_gave (texts_of job) left r.bytes r.ends whole gave in
     record { bytes_are = both.0; whole = both.1 ∙ ap (λ ts. map (λ text. Whole) ts) (sym both.0) }
 
-lines_are : (held : Option Contents) (named : Named) (job : Job) (lines : List Line)
-    → named.command ≡ Make → lines ≡ lines_of job
-    → HasLines held named job lines
-lines_are held named job lines is same = subst (λ (c : Command). LinesFor c held named job lines)
-    (sym is) same
+lines_are : (held : Option Contents) (named : Named) (job : Job) (text : List ℕ)
+    (lines : List Line) → named.command ≡ Make → lines ≡ lines_of job
+    → HasLines held named job text lines
+lines_are held named job text lines is same =
+    subst (λ (c : Command). LinesFor c held named job text lines) (sym is) same
 
 -- what the report of a run over made frames is
 pub record IsMadeRun (job : Job) (report : RunReport) : Type 0 where
-  pub reported : (old new : StoreSeen) (named : Named) → named.command ≡ Make
-      → IsRead old new named job → IsReported old new named job.setup report
+  pub reported : (old new : StoreSeen) (named : Named) (texts : Texts) → named.command ≡ Make
+      → IsRead old new named texts job → IsReported old new named job.setup report
   pub faults : faults_in report.cpus ≡ 0
   pub small : IsSmall report
 
@@ -167,9 +168,9 @@ made_run job lines sources left cpus members report sound cpus_is members_is sou
     (recursion_from_All (λ text. end_of text ≡ None) (texts_of job)
     (captures-end setup.seed setup.count (length setup.cpus) sound.count)) in
     record {
-      reported = λ old new named is read.
-          make_reported old new named job lines (map seen sources) (map seen left) report r is made
-          read (lines_are old.held named job lines is lines_same);
+      reported = λ old new named texts is read.
+          make_reported old new named texts job lines (map seen sources) (map seen left) report r is
+          made read (lines_are old.held named job texts.last lines is lines_same);
       faults = no_faults r.replayed.bytes report.cpus
           (subst (λ (es : List CpuEnd). AreEnds report.cpus es) made.whole
           (report_ends (block_rules job.setup.shape) job r.replayed.bytes r.replayed.ends report r.replayed.run));

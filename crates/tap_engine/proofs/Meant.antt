@@ -41,20 +41,21 @@ setup_meant None meant named untold all = untold named.setup refl
 setup_meant (Some files) meant named untold all = first_meant meant named (setup_held files named)
     all
 
-held_setup : (files : Contents) (named : Named) (setup : Setup) → HasSetup (Some files) named setup
-    → setup_held files named ≡ Ok setup
-held_setup files named setup has =
-    says_held (setup_for named.command) files named.setup (Ok setup) (setups named.command) has
+held_setup : (files : Contents) (named : Named) (text : List ℕ) (setup : Setup)
+    → HasSetup (Some files) named text setup → setup_held files named ≡ Ok setup
+held_setup files named text setup has =
+    says_held (setup_for named.command) files named.setup text (Ok setup) (setups named.command) has
 
 -- so are the names after it
-pub after_meant : (held : Option Contents) (meant : List ℕ → Bool) (named : Named) (setup : Setup)
+pub after_meant : (held : Option Contents) (meant : List ℕ → Bool) (named : Named)
+    (text : List ℕ) (setup : Setup)
     → Untold held meant → AreMeant names_to_read (Some named) held meant
-    → HasSetup held named setup
+    → HasSetup held named text setup
     → AllMeant meant (read_after named setup)
-after_meant None meant named setup untold all has = any_name meant _ (λ name. untold name refl)
-after_meant (Some files) meant named setup untold all has =
+after_meant None meant named text setup untold all has = any_name meant _ (λ name. untold name refl)
+after_meant (Some files) meant named text setup untold all has =
     (subst (λ (s : Result Setup SetupError). AllMeant meant (read_by named s))
-    (held_setup files named setup has) all).1
+    (held_setup files named text setup has) all).1
 
 option_meant : (meant : List ℕ → Bool) (name : Option (List ℕ)) (names : List (List ℕ))
     → AllMeant meant (option_to_list name ++ names)
@@ -68,13 +69,14 @@ pub record AfterMeant (meant : List ℕ → Bool) (named : Named) (setup : Setup
   pub ticks : IfSome (ticks_for named.command setup) (λ name. IsTrue (meant name))
   pub last : AllMeant meant (read_last named.command named.schedule setup)
 
-pub names_meant : (held : Option Contents) (meant : List ℕ → Bool) (named : Named) (setup : Setup)
+pub names_meant : (held : Option Contents) (meant : List ℕ → Bool) (named : Named)
+    (text : List ℕ) (setup : Setup)
     → Untold held meant → AreMeant names_to_read (Some named) held meant
-    → HasSetup held named setup
+    → HasSetup held named text setup
     → AfterMeant meant named setup
-names_meant held meant named setup untold all has =
+names_meant held meant named text setup untold all has =
     let filter = option_meant meant (filter_for named.command setup) _
-    (after_meant held meant named setup untold all has) in
+    (after_meant held meant named text setup untold all has) in
     let ticks = option_meant meant (ticks_for named.command setup) _ filter.1 in
     record { filter = filter.0; ticks = ticks.0; last = ticks.1 }
 
@@ -101,11 +103,12 @@ captures_meant meant cpus all =
     (files_meant meant cpus all)
 
 -- and what is saved is meant for saving
-pub outputs_meant : (held : Option Contents) (meant : List ℕ → Bool) (named : Named) (setup : Setup)
+pub outputs_meant : (held : Option Contents) (meant : List ℕ → Bool) (named : Named)
+    (text : List ℕ) (setup : Setup)
     → Untold held meant → AreMeant names_to_save (Some named) held meant
-    → HasSetup held named setup
+    → HasSetup held named text setup
     → AllMeant meant (saved_for named.command setup)
-outputs_meant None meant named setup untold all has = any_name meant _ (λ name. untold name refl)
-outputs_meant (Some files) meant named setup untold all has =
+outputs_meant None meant named text setup untold all has = any_name meant _ (λ name. untold name refl)
+outputs_meant (Some files) meant named text setup untold all has =
     subst (λ (s : Result Setup SetupError). AllMeant meant (saved_by named.command s))
-    (held_setup files named setup has) all
+    (held_setup files named text setup has) all

@@ -1,6 +1,6 @@
 -- A capture that was read and sent.
 use Rattle.std.proofs.Common.{◌≡◌, ℕ, ◌+◌, ◌<◌, ◌≤◌, Bool, true, false, List, [], ◌∷◌, ◌++◌, length}
-use Rattle.std.proofs.Common.{get_or, Option, refl, sym, ap, subst, arith}
+use Rattle.std.proofs.Common.{get_or, Option, None, refl, sym, ap, subst, arith}
 use Rattle.std.specs.Prelude.{All, if◌then◌else◌}
 use Rattle.std.specs.List.{AllByRecursion}
 use Rattle.std.proofs.lemmas.List.Elements.{All-from_recursion, recursion_from_All}
@@ -15,6 +15,7 @@ use Rattle.frame_view.specs.declared.frames.Packet.{Packet}
 use Rattle.setup_text.specs.declared.cpu_setups.CpuSetup.{CpuSetup}
 use Rattle.setup_text.specs.declared.setups.Setup.{Setup}
 use Rattle.tap_outside.specs.Contents.{Contents}
+use Rattle.tap_outside.specs.Records.{Took}
 use Rattle.tap_outside.specs.Seen.{SourceSeen, StoreSeen}
 use Rattle.tx_ring.specs.Transmission.{before_long, is_fitting, is_long, plain_packets, reached}
 use Rattle.tx_ring.specs.Transmission.{transmitted_of}
@@ -23,11 +24,11 @@ use Rattle.tap_engine.specs.Findings.{fault_at}
 use Rattle.tap_engine.specs.Headline.{IsCapture}
 use Rattle.tap_engine.specs.Names.{first_file}
 use Rattle.tap_engine.specs.Sendings.{IsFirst}
-use Rattle.tap_engine.specs.Given.{given_entries, missing_entries}
-use Rattle.tap_engine.specs.inside.Sources.{AreFetched, faulty_in, givens, missing_in}
+use Rattle.tap_engine.specs.Given.{capture_entry, given_entries}
+use Rattle.tap_engine.specs.inside.Sources.{AreFetched, Fetches, entries_of, faulty_in, missing_in, with_closed}
 use Rattle.tap_engine.proofs.Counted.{counts_less, counts_run}
 use Rattle.tap_engine.proofs.Fetched.{captures_are}
-use Rattle.tap_engine.proofs.Given.{first_given}
+use Rattle.tap_engine.proofs.Given.{closes_nothing, one_given, run_given}
 
 -- the capture of CPU 0 is that of the first CPU
 pub first_is : (cpus : List CpuSetup) (cpu : CpuSetup) → 0 < length cpus → cpu ≡ get_or cpus 0 cpu
@@ -38,18 +39,30 @@ first_is (first ∷ cpus) cpu some is = ap (λ (c : CpuSetup). c.file) (sym is)
 pub first_read : (a b c : StoreSeen) (setup : Setup) (cpu : CpuSetup)
     (old new : Option SourceSeen) (reading : Reading)
     → first_file setup.cpus ≡ cpu.file → AreFetched a.held (cpu ∷ []) (old ∷ [])
-    → b.closed ≡ a.closed ++ missing_entries (old ∷ [])
-    → c.closed ≡ b.closed ++ given_entries (givens (new ∷ []))
+    → Fetches a.sources b.sources (cpu ∷ []) (old ∷ [])
+    → c.sources ≡ with_closed b.sources (given_entries (entries_of (new ∷ [])))
     → IsReading 0 old new reading → IsFirst a c setup reading
-first_read a b c setup cpu old new reading file fetched missed closed is = record {
-  bytes = is.bytes;
-  capture = subst (λ name. IsCapture a.held name is.bytes reading.end) (sym file)
-      (captures_are a.held (cpu ∷ []) (old ∷ []) (new ∷ []) (is.bytes ∷ []) (reading.end ∷ [])
-      fetched (is.gave, tt)).0;
-  given = first_given a.held cpu old new is.bytes reading.end a.closed b.closed c.closed fetched
-      is.gave missed closed;
-  frames = is.frames;
-}
+first_read a b c setup cpu old new reading file fetched opened closed is =
+    let given = one_given a.sources c.sources cpu is.bytes reading.end
+    (run_given a.held (cpu ∷ []) (old ∷ []) (new ∷ []) (is.bytes ∷ []) (reading.end ∷ []) a.sources
+    b.sources c.sources fetched (is.gave, tt) opened closed) in
+    record {
+      bytes = is.bytes;
+      capture = subst (λ name. IsCapture a.held name is.bytes reading.end) (sym file)
+          (captures_are a.held (cpu ∷ []) (old ∷ []) (new ∷ []) (is.bytes ∷ []) (reading.end ∷ [])
+          fetched (is.gave, tt)).0;
+      opened = given.0;
+      given = subst (λ name. Took a.sources c.sources
+          (capture_entry name given.0 is.bytes reading.end ∷ [])) (sym file) given.1;
+      frames = is.frames;
+    }
+
+-- also where it couldn't be fetched
+pub first_missing : (a b : StoreSeen) (setup : Setup) (cpu : CpuSetup) (reading : Reading)
+    → first_file setup.cpus ≡ cpu.file → Fetches a.sources b.sources (cpu ∷ []) (None ∷ [])
+    → IsReading 0 None None reading → IsFirst a b setup reading
+first_missing a b setup cpu reading file opened is =
+    first_read a b b setup cpu None None reading file tt opened (closes_nothing b.sources) is
 
 -- the log of a capture that ended in this way
 abbrev log_of : CpuEnd → CpuLog

@@ -71,28 +71,29 @@ same_answer reader files name text limits read = by (cases_lt 1048576 (length te
   by (inl large) = limits.1 (unwrap_or (files name) []) (longer large) ∙ sym (limits.1 text large)
   by (inr small) = ap reader (sym (read.whole small))
 
-pub says_held : {A : Type 0} (reader : List ℕ → A) (files : Contents) (name : List ℕ) (answer : A)
-    → Limits reader → Says reader (Some files) name answer
+pub says_held : {A : Type 0} (reader : List ℕ → A) (files : Contents) (name text : List ℕ)
+    (answer : A) → Limits reader → Says reader (Some files) name text answer
     → reader (unwrap_or (files name) []) ≡ answer
-says_held reader files name answer limits says = same_answer reader files name says.text limits
-    says.read ∙ says.is
+says_held reader files name text answer limits says =
+    same_answer reader files name text limits says.read ∙ says.is
 
 -- one name holds one text
 ok_err : {A E : Type 0} (a : A) (e : E) → Ok a ≡ Err e → ⊥
 ok_err a e same = cc
 
-pub not_both : {A E : Type 0} (reader : List ℕ → Result A E) (files : Contents) (name : List ℕ)
-    (value : A) (error : E) → Limits reader
-    → reader (unwrap_or (files name) []) ≡ Ok value → Says reader (Some files) name (Err error) → ⊥
-not_both reader files name value error limits is says = ok_err value error
-    (sym is ∙ says_held reader files name (Err error) limits says)
+pub not_both : {A E : Type 0} (reader : List ℕ → Result A E) (files : Contents)
+    (name text : List ℕ) (value : A) (error : E) → Limits reader
+    → reader (unwrap_or (files name) []) ≡ Ok value → Says reader (Some files) name text (Err error)
+    → ⊥
+not_both reader files name text value error limits is says = ok_err value error
+    (sym is ∙ says_held reader files name text (Err error) limits says)
 
 ok_same : {A E : Type 0} (a b : A) → ◌≡◌ {A = Result A E} (Ok a) (Ok b) → a ≡ b
 ok_same a b same = cc
 
-pub same_value : {A E : Type 0} (reader : List ℕ → Result A E) (files : Contents) (name : List ℕ)
-    (value read : A) → Limits reader
-    → reader (unwrap_or (files name) []) ≡ Ok value → Says reader (Some files) name (Ok read)
+pub same_value : {A E : Type 0} (reader : List ℕ → Result A E) (files : Contents)
+    (name text : List ℕ) (value read : A) → Limits reader
+    → reader (unwrap_or (files name) []) ≡ Ok value → Says reader (Some files) name text (Ok read)
     → value ≡ read
-same_value reader files name value read limits is says = ok_same value read
-    (sym is ∙ says_held reader files name (Ok read) limits says)
+same_value reader files name text value read limits is says = ok_same value read
+    (sym is ∙ says_held reader files name text (Ok read) limits says)

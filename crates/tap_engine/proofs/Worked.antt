@@ -1,7 +1,7 @@
 -- The outcome of a command's work, if its job is accepted.
-use Rattle.std.proofs.Common.{◌≡◌, ℕ, Bool, true, false, List, ◌∷◌, map, refl, sym, ap, subst, inl, inr}
-use Rattle.std.proofs.Common.{Option, None, Some, ◌+◌, arith}
-use Rattle.std.specs.Prelude.{◌⊎◌, IfSome, IsTrue, All, Ok}
+use Rattle.std.proofs.Common.{◌≡◌, ℕ, Bool, true, false, List, [], ◌∷◌, ◌++◌, map, refl, sym, ap, ◌∙◌, subst, inl, inr}
+use Rattle.std.proofs.Common.{Option, None, Some, append-nil}
+use Rattle.std.specs.Prelude.{◌⊎◌, if◌then◌else◌, IfSome, IsTrue, All, Ok}
 use Rattle.setup_text.specs.declared.lines.Line.{Line}
 use Rattle.setup_text.specs.Setups.{request_fault}
 use Rattle.setup_text.specs.Sound.{IsSetup}
@@ -11,24 +11,26 @@ use Rattle.setup_text.specs.declared.jobs.Job.{Job}
 use Rattle.run_reports.specs.declared.reports.RunReport.{RunReport}
 use Rattle.setup_text.specs.declared.setups.Setup.{Setup}
 use Rattle.tap_outside.specs.Contents.{Contents}
-use Rattle.tap_outside.specs.Seen.{NoReadFailed, OnlyReads, StoreSeen}
+use Rattle.tap_outside.specs.Seen.{Entry, OnlyReads, StoreSeen}
 use Rattle.slot_layout.specs.SlotShapes.{IsSlotShape}
 use Rattle.run_reports.specs.declared.ring_kind.RingKind.TheVariants.{Blocks, Slots}
 use Rattle.tp_layout.specs.Requests.{slot_fault, transmit_fault}
 use Rattle.tp_layout.specs.declared.requests.RingRequest.{RingRequest}
 use Rattle.tap_engine.specs.Commands.{Named, has_schedule, is_threaded, rings_of, sends}
-use Rattle.tap_reading.specs.Readers.{Says}
+use Rattle.tap_reading.specs.Fronts.{ReadTexts, text_entry}
+use Rattle.tap_reading.specs.Readers.{ReadsAs, Says, setup_for}
 use Rattle.tap_engine.specs.Faults.{IsCounted}
 use Rattle.tap_engine.specs.Findings.{IsFound, IsReported, fault_at}
-use Rattle.tap_engine.specs.Given.{ReadTexts, all_texts, first_texts, last_texts, one_named}
-use Rattle.tap_engine.specs.Jobs.{HasJob, HasLast, HasLines, HasSchedule, HasTicks, IsAsked}
+use Rattle.tap_engine.specs.Given.{Texts, all_texts, first_texts, last_texts, named_entry}
+use Rattle.tap_engine.specs.Jobs.{HasJob, HasLast, HasLines, HasProgram, HasSchedule, HasTicks, IsAsked}
 use Rattle.tap_engine.specs.Jobs.{IsLoaded, IsRead, LinesFor, lines_for}
-use Rattle.tap_engine.specs.Names.{first_file, read_last, ticks_for}
+use Rattle.tap_engine.specs.inside.Loads.{ReadsOne}
+use Rattle.tap_engine.specs.Names.{filter_for, first_file, read_last, ticks_for}
 use Rattle.tap_engine.specs.Sendings.{IsSending}
 use Rattle.tap_engine.specs.declared.findings.Finding.TheVariants as finding
 use Rattle.tap_engine.specs.declared.sent_captures.Sending.{Sending}
 use Rattle.tap_engine.proofs.Counted.{counts_later}
-use Rattle.tap_engine.proofs.Fetched.{held_same, unfailed_then}
+use Rattle.tap_engine.proofs.Fetched.{held_same}
 use Rattle.tap_engine.proofs.Given.{read_then}
 use Rattle.tap_engine.proofs.Meant.{AfterMeant, AllMeant, captures_meant}
 
@@ -118,130 +120,246 @@ pub threaded_ticks : (named : Named) (setup : Setup) → is_threaded named.comma
     → ticks_for named.command setup ≡ setup.ticks
 threaded_ticks named setup is = threaded_moments named.command setup is
 
-ticks_since : (start old : StoreSeen) (ticks : Option (List ℕ)) (moments : List ℕ)
-    → OnlyReads start old → HasTicks old.held ticks moments → HasTicks start.held ticks moments
-ticks_since start old ticks moments reads has =
-    subst (λ (held : Option Contents). HasTicks held ticks moments) (held_same start old reads) has
+ticks_since : (start old : StoreSeen) (ticks : Option (List ℕ)) (text moments : List ℕ)
+    → OnlyReads start old → HasTicks old.held ticks text moments
+    → HasTicks start.held ticks text moments
+ticks_since start old ticks text moments reads has =
+    subst (λ (held : Option Contents). HasTicks held ticks text moments)
+    (held_same start old reads) has
 
-pub checks : (start old new : StoreSeen) (named : Named) (job : Job) (moments : List ℕ)
-    → named.command ≡ Check → IsLoaded start old named job
-    → HasTicks old.held job.setup.ticks moments → NoReadFailed old new
+-- ---- all texts, the last one among them
+
+-- the texts with this one as the last
+abbrev pub and_last : Texts → List ℕ → Texts
+and_last texts text = record texts { last = text }
+
+job_still : (held : Option Contents) (named : Named) (texts : Texts) (text : List ℕ) (job : Job)
+    → HasJob held named texts job → HasJob held named (and_last texts text) job
+job_still held named texts text job has = record { setup = has.setup; program = has.program }
+
+scheduled_last_text : (named : Named) (setup : Setup) (texts : Texts)
+    → has_schedule named.command ≡ true
+    → text_entry named.schedule texts.last ∷ [] ≡ last_texts named setup texts
+scheduled_last_text named setup texts is =
+    ap (λ (b : Bool). if b then text_entry named.schedule texts.last ∷ []
+    else named_entry (ticks_for named.command setup) texts.last) (sym is)
+
+not_scheduled : (command : Command) → is_threaded command ≡ true → has_schedule command ≡ false
+not_scheduled Capture is = refl
+not_scheduled Forward is = refl
+not_scheduled Check is = cc
+not_scheduled Replay is = cc
+not_scheduled Replay2 is = cc
+not_scheduled Send is = cc
+not_scheduled Make is = cc
+
+-- what a command without a schedule reads last
+unscheduled : (named : Named) (setup : Setup) (texts : Texts)
+    → has_schedule named.command ≡ false
+    → named_entry (ticks_for named.command setup) texts.last ≡ last_texts named setup texts
+unscheduled named setup texts is =
+    ap (λ (b : Bool). if b then text_entry named.schedule texts.last ∷ []
+    else named_entry (ticks_for named.command setup) texts.last) (sym is)
+
+scheduled_read : (start old mid : StoreSeen) (named : Named) (texts : Texts) (job : Job)
+    (text : List ℕ) → has_schedule named.command ≡ true → IsLoaded start old named texts job
+    → ReadTexts old mid (text_entry named.schedule text ∷ [])
+    → IsRead start mid named (and_last texts text) job
+scheduled_read start old mid named texts job text is loaded last = record {
+  job_is = job_still start.held named texts text job loaded.job_is;
+  read_is = read_then start old mid (first_texts named job.setup texts)
+      (last_texts named job.setup (and_last texts text)) loaded.read_is
+      (subst (λ (entries : List Entry). ReadTexts old mid entries)
+      (scheduled_last_text named job.setup (and_last texts text) is) last);
+}
+
+ticked_read : (start old mid : StoreSeen) (named : Named) (texts : Texts) (job : Job)
+    (text : List ℕ) → has_schedule named.command ≡ false
+    → ticks_for named.command job.setup ≡ job.setup.ticks → IsLoaded start old named texts job
+    → ReadTexts old mid (named_entry job.setup.ticks text)
+    → IsRead start mid named (and_last texts text) job
+ticked_read start old mid named texts job text is are loaded last = record {
+  job_is = job_still start.held named texts text job loaded.job_is;
+  read_is = read_then start old mid (first_texts named job.setup texts)
+      (last_texts named job.setup (and_last texts text)) loaded.read_is
+      (subst (λ (entries : List Entry). ReadTexts old mid entries)
+      (ap (λ (name : Option (List ℕ)). named_entry name text) (sym are)
+      ∙ unscheduled named job.setup (and_last texts text) is) last);
+}
+
+-- a command that reads none
+none_last : (named : Named) (setup : Setup) (texts : Texts) → last_texts named setup texts ≡ []
+    → first_texts named setup texts ≡ all_texts named setup texts
+none_last named setup texts none =
+    sym (ap (λ (last : List Entry). first_texts named setup texts ++ last) none
+    ∙ append-nil (first_texts named setup texts))
+
+last_by : (named : Named) (setup : Setup) (texts : Texts) (command : Command)
+    → named.command ≡ command
+    → (if has_schedule command then text_entry named.schedule texts.last ∷ []
+    else named_entry (ticks_for command setup) texts.last) ≡ [] → last_texts named setup texts ≡ []
+last_by named setup texts command is none =
+    ap (λ (c : Command). if has_schedule c then text_entry named.schedule texts.last ∷ []
+    else named_entry (ticks_for c setup) texts.last) is ∙ none
+
+pub made_read : (start old : StoreSeen) (named : Named) (texts : Texts) (job : Job)
+    → named.command ≡ Make → IsLoaded start old named texts job → IsRead start old named texts job
+made_read start old named texts job is loaded = record {
+  job_is = loaded.job_is;
+  read_is = subst (λ (entries : List Entry). ReadTexts start old entries)
+      (none_last named job.setup texts (last_by named job.setup texts Make is refl)) loaded.read_is;
+}
+
+send_read : (start old : StoreSeen) (named : Named) (texts : Texts) (job : Job)
+    → named.command ≡ Send → IsLoaded start old named texts job → IsRead start old named texts job
+send_read start old named texts job is loaded = record {
+  job_is = loaded.job_is;
+  read_is = subst (λ (entries : List Entry). ReadTexts start old entries)
+      (none_last named job.setup texts (last_by named job.setup texts Send is refl)) loaded.read_is;
+}
+
+-- setup and filter, one after the other
+pub loads_both : (old mid new : StoreSeen) (named : Named) (job : Job) (name : Option (List ℕ))
+    → name ≡ filter_for named.command job.setup
+    → ReadsAs (setup_for named.command) old mid named.setup (Ok job.setup)
+    → ReadsOne mid new name (λ text. HasProgram mid.held name text job.program)
+    → (texts : Texts) × IsLoaded old new named texts job
+loads_both old mid new named job name is first filter =
+    let held = held_same old mid first.texts.unfailed.only in (
+      record { setup = first.text; filter = filter.text; last = [] },
+      record {
+        job_is = record {
+          setup = first.says;
+          program = subst (λ (n : Option (List ℕ)). HasProgram old.held n filter.text job.program) is
+              (subst (λ (o : Option Contents). HasProgram o name filter.text job.program) held
+              filter.has);
+        };
+        read_is = read_then old mid new (text_entry named.setup first.text ∷ [])
+            (named_entry (filter_for named.command job.setup) filter.text) first.texts
+            (subst (λ (n : Option (List ℕ)). ReadTexts mid new (named_entry n filter.text)) is
+            filter.read_is);
+      },
+    )
+
+-- ---- what is found
+
+check_unscheduled : (command : Command) → command ≡ Check → has_schedule command ≡ false
+check_unscheduled command is = ap has_schedule is
+
+pub checks : (start old new : StoreSeen) (named : Named) (texts : Texts) (job : Job)
+    (moments : List ℕ) → named.command ≡ Check → IsLoaded start old named texts job
+    → ReadsOne old new job.setup.ticks (λ text. HasTicks old.held job.setup.ticks text moments)
     → IsFound (Some named) start new finding.Checked
-checks start old new named job moments is loaded ticks unfailed = (
-  record {
-    command = is;
-    job = job;
-    job_is = loaded.job_is;
-    moments = moments;
-    ticks = subst (λ (name : Option (List ℕ)). HasTicks start.held name moments)
-        (sym (ticks_are named job.setup is)) (ticks_since start old job.setup.ticks moments
-        loaded.texts.unfailed.only ticks);
-  },
-  unfailed_then start old new loaded.texts.unfailed unfailed,
-)
+checks start old new named texts job moments is loaded one =
+    let read = ticked_read start old new named texts job one.text (check_unscheduled named.command is)
+    (ticks_are named job.setup is) loaded one.read_is in
+    record {
+      command = is;
+      texts = and_last texts one.text;
+      job = job;
+      job_is = read.job_is;
+      moments = moments;
+      ticks = subst (λ (name : Option (List ℕ)). HasTicks start.held name one.text moments)
+          (sym (ticks_are named job.setup is)) (ticks_since start old job.setup.ticks one.text moments
+          loaded.read_is.unfailed.only one.has);
+      read_is = read.read_is;
+    }
 
-send_texts : (command : Command) (setup : Setup) → command ≡ Send
-    → first_texts command setup ≡ all_texts command setup
-send_texts Send setup is = refl
-send_texts Check setup is = cc
-send_texts Capture setup is = cc
-send_texts Forward setup is = cc
-send_texts Replay setup is = cc
-send_texts Replay2 setup is = cc
-send_texts Make setup is = cc
-
-pub sent_found : (start old new : StoreSeen) (named : Named) (job : Job) (sending : Sending)
-    → named.command ≡ Send → IsLoaded start old named job → IsSending old new job.setup sending
-    → IsCounted old new (fault_at sending.end)
+pub sent_found : (start old new : StoreSeen) (named : Named) (texts : Texts) (job : Job)
+    (sending : Sending) → named.command ≡ Send → IsLoaded start old named texts job
+    → IsSending old new job.setup sending → IsCounted old new (fault_at sending.end)
     → IsFound (Some named) start new (finding.Sent job.setup sending)
-sent_found start old new named job sending is loaded sent faults = (
-  record {
-    command = is;
-    job = job;
-    job_is = loaded.job_is;
-    setup_is = refl;
-    read = old;
-    texts = subst (λ many. ReadTexts start old many) (send_texts named.command job.setup is)
-        loaded.texts;
-    sending_is = sent;
-  },
-  counts_later (fault_at sending.end) start old new loaded.texts.unfailed faults,
-)
+sent_found start old new named texts job sending is loaded sent faults =
+    let read = send_read start old named texts job is loaded in (
+      record {
+        command = is;
+        texts = texts;
+        job = job;
+        job_is = loaded.job_is;
+        setup_is = refl;
+        read = old;
+        read_is = read.read_is;
+        sending_is = sent;
+      },
+      counts_later (fault_at sending.end) start old new loaded.read_is.unfailed faults,
+    )
 
 -- ---- what was asked for, if memory ran out
 
-pub made_asked : (held : Option Contents) (named : Named) (job : Job) → named.command ≡ Make
-    → HasJob held named job → IsAsked held named
-made_asked held named job is has =
+pub made_asked : (held : Option Contents) (named : Named) (texts : Texts) (job : Job)
+    → named.command ≡ Make → HasJob held named texts job → IsAsked held named
+made_asked held named texts job is has =
     record {
       job = job;
+      texts = texts;
       job_is = has;
-      last = subst (λ (c : Command). HasLast c held named job)
-          (sym is) tt;
+      last = subst (λ (c : Command). HasLast c held named job texts.last) (sym is) tt;
     }
 
-pub send_asked : (held : Option Contents) (named : Named) (job : Job) → named.command ≡ Send
-    → HasJob held named job → IsAsked held named
-send_asked held named job is has =
+pub send_asked : (held : Option Contents) (named : Named) (texts : Texts) (job : Job)
+    → named.command ≡ Send → HasJob held named texts job → IsAsked held named
+send_asked held named texts job is has =
     record {
       job = job;
+      texts = texts;
       job_is = has;
-      last = subst (λ (c : Command). HasLast c held named job)
-          (sym is) tt;
+      last = subst (λ (c : Command). HasLast c held named job texts.last) (sym is) tt;
     }
 
-threaded_texts : (held : Option Contents) (named : Named) (job : Job) (moments : List ℕ)
+threaded_texts : (held : Option Contents) (named : Named) (job : Job) (text moments : List ℕ)
     (command : Command) → is_threaded command ≡ true
-    → HasTicks held job.setup.ticks moments → HasLast command held named job
-threaded_texts held named job moments Capture is ticks = (moments, ticks)
-threaded_texts held named job moments Forward is ticks = (moments, ticks)
-threaded_texts held named job moments Check is ticks = cc
-threaded_texts held named job moments Replay is ticks = cc
-threaded_texts held named job moments Replay2 is ticks = cc
-threaded_texts held named job moments Send is ticks = cc
-threaded_texts held named job moments Make is ticks = cc
+    → HasTicks held job.setup.ticks text moments → HasLast command held named job text
+threaded_texts held named job text moments Capture is ticks = (moments, ticks)
+threaded_texts held named job text moments Forward is ticks = (moments, ticks)
+threaded_texts held named job text moments Check is ticks = cc
+threaded_texts held named job text moments Replay is ticks = cc
+threaded_texts held named job text moments Replay2 is ticks = cc
+threaded_texts held named job text moments Send is ticks = cc
+threaded_texts held named job text moments Make is ticks = cc
 
-pub threaded_asked : (held : Option Contents) (named : Named) (job : Job) (moments : List ℕ)
-    → is_threaded named.command ≡ true → HasJob held named job
-    → HasTicks held job.setup.ticks moments → IsAsked held named
-threaded_asked held named job moments is has ticks =
+threaded_asked : (held : Option Contents) (named : Named) (texts : Texts) (job : Job)
+    (text moments : List ℕ) → is_threaded named.command ≡ true → HasJob held named texts job
+    → HasTicks held job.setup.ticks text moments → IsAsked held named
+threaded_asked held named texts job text moments is has ticks =
     record {
       job = job;
-      job_is = has;
-      last = threaded_texts held named job moments named.command is ticks;
+      texts = and_last texts text;
+      job_is = job_still held named texts text job has;
+      last = threaded_texts held named job text moments named.command is ticks;
     }
 
-scheduled_texts : (held : Option Contents) (named : Named) (job : Job) (lines : List Line)
-    (command : Command) → has_schedule command ≡ true
-    → HasSchedule held named job lines → HasLast command held named job
-scheduled_texts held named job lines Replay is schedule = (lines, schedule)
-scheduled_texts held named job lines Replay2 is schedule = (lines, schedule)
-scheduled_texts held named job lines Check is schedule = cc
-scheduled_texts held named job lines Capture is schedule = cc
-scheduled_texts held named job lines Forward is schedule = cc
-scheduled_texts held named job lines Send is schedule = cc
-scheduled_texts held named job lines Make is schedule = cc
+scheduled_texts : (held : Option Contents) (named : Named) (job : Job) (text : List ℕ)
+    (lines : List Line) (command : Command) → has_schedule command ≡ true
+    → HasSchedule held named job text lines → HasLast command held named job text
+scheduled_texts held named job text lines Replay is schedule = (lines, schedule)
+scheduled_texts held named job text lines Replay2 is schedule = (lines, schedule)
+scheduled_texts held named job text lines Check is schedule = cc
+scheduled_texts held named job text lines Capture is schedule = cc
+scheduled_texts held named job text lines Forward is schedule = cc
+scheduled_texts held named job text lines Send is schedule = cc
+scheduled_texts held named job text lines Make is schedule = cc
 
-pub replay_asked : (held : Option Contents) (named : Named) (job : Job) (lines : List Line)
-    → has_schedule named.command ≡ true → HasJob held named job
-    → HasSchedule held named job lines → IsAsked held named
-replay_asked held named job lines is has schedule =
+replay_asked : (held : Option Contents) (named : Named) (texts : Texts) (job : Job)
+    (text : List ℕ) (lines : List Line) → has_schedule named.command ≡ true
+    → HasJob held named texts job → HasSchedule held named job text lines → IsAsked held named
+replay_asked held named texts job text lines is has schedule =
     record {
       job = job;
-      job_is = has;
-      last = scheduled_texts held named job lines named.command is schedule;
+      texts = and_last texts text;
+      job_is = job_still held named texts text job has;
+      last = scheduled_texts held named job text lines named.command is schedule;
     }
 
-scheduled_lines : (held : Option Contents) (named : Named) (job : Job) (lines : List Line)
-    (command : Command) → has_schedule command ≡ true
-    → HasSchedule held named job lines → LinesFor command held named job lines
-scheduled_lines held named job lines Replay is schedule = schedule
-scheduled_lines held named job lines Replay2 is schedule = schedule
-scheduled_lines held named job lines Check is schedule = cc
-scheduled_lines held named job lines Capture is schedule = cc
-scheduled_lines held named job lines Forward is schedule = cc
-scheduled_lines held named job lines Send is schedule = cc
-scheduled_lines held named job lines Make is schedule = cc
+scheduled_lines : (held : Option Contents) (named : Named) (job : Job) (text : List ℕ)
+    (lines : List Line) (command : Command) → has_schedule command ≡ true
+    → HasSchedule held named job text lines → LinesFor command held named job text lines
+scheduled_lines held named job text lines Replay is schedule = schedule
+scheduled_lines held named job text lines Replay2 is schedule = schedule
+scheduled_lines held named job text lines Check is schedule = cc
+scheduled_lines held named job text lines Capture is schedule = cc
+scheduled_lines held named job text lines Forward is schedule = cc
+scheduled_lines held named job text lines Send is schedule = cc
+scheduled_lines held named job text lines Make is schedule = cc
 
 -- a `replay` and a `replay2` have one, and send nothing
 pub replays_scheduled : (command : Command) → (command ≡ Replay) ⊎ (command ≡ Replay2)
@@ -261,118 +379,53 @@ named_schedule command named is same =
     subst (λ (c : Command). has_schedule c ≡ true) (sym same) is
 
 -- also by the name of its schedule
-schedule_by : (held : Option Contents) (named : Named) (job : Job) (name : List ℕ)
-    (lines : List Line) → named.schedule ≡ name
-    → Says (lines_for job) held name (Ok lines) → HasSchedule held named job lines
-schedule_by held named job name lines called says =
-    subst (λ (n : List ℕ). Says (lines_for job) held n (Ok lines)) (sym called) says
+schedule_since : (start old : StoreSeen) (named : Named) (texts : Texts) (job : Job)
+    (name text : List ℕ) (lines : List Line) → named.schedule ≡ name
+    → IsLoaded start old named texts job
+    → Says (lines_for job) old.held name text (Ok lines) → HasSchedule start.held named job text lines
+schedule_since start old named texts job name text lines called loaded says =
+    subst (λ (n : List ℕ). Says (lines_for job) start.held n text (Ok lines)) (sym called)
+    (subst (λ (held : Option Contents). Says (lines_for job) held name text (Ok lines))
+    (held_same start old loaded.read_is.unfailed.only) says)
 
-schedule_since : (start old : StoreSeen) (named : Named) (job : Job) (name : List ℕ)
-    (lines : List Line) → named.schedule ≡ name → IsLoaded start old named job
-    → Says (lines_for job) old.held name (Ok lines) → HasSchedule start.held named job lines
-schedule_since start old named job name lines called loaded says =
-    schedule_by start.held named job name lines called
-    (subst (λ (held : Option Contents). Says (lines_for job) held name (Ok lines))
-    (held_same start old loaded.texts.unfailed.only) says)
+pub asked_by_name : (start old mid : StoreSeen) (named : Named) (texts : Texts) (job : Job)
+    (name : List ℕ) (lines : List Line) → has_schedule named.command ≡ true
+    → named.schedule ≡ name → IsLoaded start old named texts job
+    → ReadsAs (lines_for job) old mid name (Ok lines) → IsAsked start.held named
+asked_by_name start old mid named texts job name lines is called loaded reads =
+    replay_asked start.held named texts job reads.text lines is loaded.job_is
+    (schedule_since start old named texts job name reads.text lines called loaded reads.says)
 
-pub asked_by_name : (start old : StoreSeen) (named : Named) (job : Job) (name : List ℕ)
-    (lines : List Line) → has_schedule named.command ≡ true
-    → named.schedule ≡ name → IsLoaded start old named job
-    → Says (lines_for job) old.held name (Ok lines) → IsAsked start.held named
-asked_by_name start old named job name lines is called loaded says =
-    replay_asked start.held named job lines is loaded.job_is
-    (schedule_since start old named job name lines called loaded says)
-
-pub asked_in_time : (start old : StoreSeen) (named : Named) (job : Job) (moments : List ℕ)
-    → is_threaded named.command ≡ true → IsLoaded start old named job
-    → HasTicks old.held job.setup.ticks moments → IsAsked start.held named
-asked_in_time start old named job moments is loaded ticks =
-    threaded_asked start.held named job moments is loaded.job_is
-    (ticks_since start old job.setup.ticks moments loaded.texts.unfailed.only ticks)
-
--- ---- all texts, the last ones among them
-
-scheduled_many : (command : Command) (setup : Setup) → has_schedule command ≡ true
-    → last_texts command setup ≡ 1
-scheduled_many Replay setup is = refl
-scheduled_many Replay2 setup is = refl
-scheduled_many Check setup is = cc
-scheduled_many Capture setup is = cc
-scheduled_many Forward setup is = cc
-scheduled_many Send setup is = cc
-scheduled_many Make setup is = cc
-
-threaded_many : (command : Command) (setup : Setup) → is_threaded command ≡ true
-    → last_texts command setup ≡ one_named setup.ticks
-threaded_many Capture setup is = refl
-threaded_many Forward setup is = refl
-threaded_many Check setup is = cc
-threaded_many Replay setup is = cc
-threaded_many Replay2 setup is = cc
-threaded_many Send setup is = cc
-threaded_many Make setup is = cc
-
--- a `make` reads none
-none_last : (many : ℕ) → many ≡ many + 0
-none_last many = omega arith
-
-made_many : (command : Command) (setup : Setup) → command ≡ Make
-    → first_texts command setup ≡ all_texts command setup
-made_many Make setup is = none_last (first_texts Make setup)
-made_many Check setup is = cc
-made_many Capture setup is = cc
-made_many Forward setup is = cc
-made_many Replay setup is = cc
-made_many Replay2 setup is = cc
-made_many Send setup is = cc
-
-scheduled_read : (start old mid : StoreSeen) (named : Named) (job : Job)
-    → has_schedule named.command ≡ true → IsLoaded start old named job → ReadTexts old mid 1
-    → IsRead start mid named job
-scheduled_read start old mid named job is loaded last = record {
-  job_is = loaded.job_is;
-  texts = subst (λ many. ReadTexts start mid (first_texts named.command job.setup + many))
-      (sym (scheduled_many named.command job.setup is))
-      (read_then (first_texts named.command job.setup) 1 start old mid loaded.texts last);
-}
-
-threaded_read : (start old mid : StoreSeen) (named : Named) (job : Job)
-    → is_threaded named.command ≡ true → IsLoaded start old named job
-    → ReadTexts old mid (one_named job.setup.ticks) → IsRead start mid named job
-threaded_read start old mid named job is loaded last = record {
-  job_is = loaded.job_is;
-  texts = subst (λ many. ReadTexts start mid (first_texts named.command job.setup + many))
-      (sym (threaded_many named.command job.setup is))
-      (read_then (first_texts named.command job.setup) (one_named job.setup.ticks) start old mid
-      loaded.texts last);
-}
-
-pub made_read : (start old : StoreSeen) (named : Named) (job : Job) → named.command ≡ Make
-    → IsLoaded start old named job → IsRead start old named job
-made_read start old named job is loaded = record {
-  job_is = loaded.job_is;
-  texts = subst (λ many. ReadTexts start old many) (made_many named.command job.setup is)
-      loaded.texts;
-}
+pub asked_in_time : (start old mid : StoreSeen) (named : Named) (texts : Texts) (job : Job)
+    (moments : List ℕ) → is_threaded named.command ≡ true → IsLoaded start old named texts job
+    → ReadsOne old mid job.setup.ticks (λ text. HasTicks old.held job.setup.ticks text moments)
+    → IsAsked start.held named
+asked_in_time start old mid named texts job moments is loaded one =
+    threaded_asked start.held named texts job one.text moments is loaded.job_is
+    (ticks_since start old job.setup.ticks one.text moments loaded.read_is.unfailed.only one.has)
 
 -- what a report guarantees, whatever command with a schedule asks for it
 abbrev pub IsWorthTo : Command → StoreSeen → StoreSeen → Job → List Line → RunReport → Type 0
 IsWorthTo command mid new job lines report =
-    (start : StoreSeen) (named : Named) → named.command ≡ command → IsRead start mid named job
-    → HasLines start.held named job lines
+    (start : StoreSeen) (named : Named) (texts : Texts) → named.command ≡ command
+    → IsRead start mid named texts job → HasLines start.held named job texts.last lines
     → IsReported start new named job.setup report
 
 pub scheduled : (old mid new : StoreSeen) (command : Command) (job : Job) (name : List ℕ)
-    (lines : List Line) (report : RunReport) → has_schedule command ≡ true → ReadTexts old mid 1
-    → Says (lines_for job) old.held name (Ok lines) → IsWorthTo command mid new job lines report
-    → (start : StoreSeen) (named : Named) → named.command ≡ command → named.schedule ≡ name
-    → IsLoaded start old named job → IsReported start new named job.setup report
-scheduled old mid new command job name lines report by_schedule last says worth start named is
+    (lines : List Line) (report : RunReport) → has_schedule command ≡ true
+    → ReadsAs (lines_for job) old mid name (Ok lines) → IsWorthTo command mid new job lines report
+    → (start : StoreSeen) (named : Named) (texts : Texts) → named.command ≡ command
+    → named.schedule ≡ name → IsLoaded start old named texts job
+    → IsReported start new named job.setup report
+scheduled old mid new command job name lines report by_schedule reads worth start named texts is
     called loaded =
     let scheduled_is = named_schedule command named by_schedule is in
-    worth start named is (scheduled_read start old mid named job scheduled_is loaded last)
-    (scheduled_lines start.held named job lines named.command scheduled_is
-    (schedule_since start old named job name lines called loaded says))
+    let last = subst (λ (n : List ℕ). ReadTexts old mid (text_entry n reads.text ∷ [])) (sym called)
+    reads.texts in
+    worth start named (and_last texts reads.text) is
+    (scheduled_read start old mid named texts job reads.text scheduled_is loaded last)
+    (scheduled_lines start.held named job reads.text lines named.command scheduled_is
+    (schedule_since start old named texts job name reads.text lines called loaded reads.says))
 
 -- ---- what rings are made of
 
@@ -405,15 +458,17 @@ slots_asked command setup sound ring is =
 -- and whatever command on threads asks for it
 abbrev pub IsWorthTimed : StoreSeen → StoreSeen → Job → List ℕ → RunReport → Type 0
 IsWorthTimed mid new job moments report =
-    (start : StoreSeen) (named : Named) → is_threaded named.command ≡ true
-    → IsRead start mid named job → HasTicks start.held job.setup.ticks moments
+    (start : StoreSeen) (named : Named) (texts : Texts) → is_threaded named.command ≡ true
+    → IsRead start mid named texts job → HasTicks start.held job.setup.ticks texts.last moments
     → IsReported start new named job.setup report
 
 pub timed : (old mid new : StoreSeen) (job : Job) (moments : List ℕ) (report : RunReport)
-    → ReadTexts old mid (one_named job.setup.ticks)
-    → HasTicks old.held job.setup.ticks moments → IsWorthTimed mid new job moments report
-    → (start : StoreSeen) (named : Named) → is_threaded named.command ≡ true
-    → IsLoaded start old named job → IsReported start new named job.setup report
-timed old mid new job moments report last ticks worth start named is loaded =
-    worth start named is (threaded_read start old mid named job is loaded last)
-    (ticks_since start old job.setup.ticks moments loaded.texts.unfailed.only ticks)
+    → ReadsOne old mid job.setup.ticks (λ text. HasTicks old.held job.setup.ticks text moments)
+    → IsWorthTimed mid new job moments report
+    → (start : StoreSeen) (named : Named) (texts : Texts) → is_threaded named.command ≡ true
+    → IsLoaded start old named texts job → IsReported start new named job.setup report
+timed old mid new job moments report one worth start named texts is loaded =
+    worth start named (and_last texts one.text) is
+    (ticked_read start old mid named texts job one.text (not_scheduled named.command is)
+    (threaded_moments named.command job.setup is) loaded one.read_is)
+    (ticks_since start old job.setup.ticks one.text moments loaded.read_is.unfailed.only one.has)

@@ -1,11 +1,15 @@
 -- What a call returns, prints and saves, by what it found.
-use Rattle.std.specs.Prelude.{◌≡◌, ◌⊎◌, ◌<◌, ℕ, Bool, true, false, List, Option, None, Some, codes}
+use Rattle.std.specs.Prelude.{◌≡◌, ◌⊎◌, ◌<◌, ◌≤◌, ◌+◌, ℕ, Bool, true, false, List, Option, None}
+use Rattle.std.specs.Prelude.{Some}
+use Rattle.std.specs.Prelude.{codes}
 use Rattle.std.specs.Prelude.{IfOk, OnErr, Result}
 use Rattle.std.specs.Io.KnownBytes.{Appends}
 use Rattle.frame_view.specs.declared.memory.Memory.{Memory}
 use Rattle.tap_outside.specs.Counts.{Rose, RoseBy}
-use Rattle.tap_outside.specs.Seen.{NoReadFailed, OnlyReads, SinkSeen, StoreSeen}
+use Rattle.tap_outside.specs.Records.{NoneOpen}
+use Rattle.tap_outside.specs.Seen.{OnlyReads, SinkSeen, StoreSeen}
 use Rattle.tap_outside.specs.Sinks.{AppendsFront}
+use Rattle.tap_reading.specs.Fronts.{RanOut}
 use Rattle.tap_saving.specs.Saves.{HoldAll, HoldUnless, NoSaveFailed, SavedSome, Touches, marked}
 use Rattle.tap_engine.specs.Commands.{Named}
 use Rattle.tap_engine.specs.Findings.{IsFound, files_of, lines_of, names_of, report_in, status_of}
@@ -26,10 +30,20 @@ IsPrinted before after lines false =
 pub record PrintedSome (before after : SinkSeen) (lines : List ℕ) : Type 0 where
   pub front : AppendsFront before.written after.written lines
   pub faultless : after.faults ≡ before.faults
+  -- no fewer writes ran out of memory
+  pub refused : (after.refused ≡ before.refused) ⊎ Rose before.refused after.refused
 
 -- the line that is printed when memory ran out, after whatever was printed before
 abbrev pub memory_line : List ℕ
 memory_line = codes "out of memory\n"
+
+-- after what was printed before, that line was printed whole, or a prefix of it was and the sink
+-- has counted why: a write that failed, or one that ran out of memory too
+abbrev pub IsLastLine : SinkSeen → SinkSeen → SinkSeen → Type 0
+IsLastLine before told after =
+    Appends told.written after.written memory_line
+    ⊎ (AppendsFront told.written after.written memory_line
+    × (Rose before.faults after.faults ⊎ Rose before.refused after.refused))
 
 -- all lines were printed and all files saved
 pub record IsDone (finding : Finding) (status : Status) (old new : StoreSeen)
@@ -67,15 +81,18 @@ pub record Tells (command : Option Named) (outcome : Outcome) (old new : StoreSe
     (before after : SinkSeen) : Type 0 where
   pub read : StoreSeen
   pub reads : OnlyReads old read
+  -- each source that was opened is closed
+  pub closed : NoneOpen old.sources read.sources
   pub finding : Finding
   pub found : IsFound command old read finding
   pub concludes : Concludes finding outcome read new before after
 
--- memory ran out before anything was found; no read failed before all texts were accepted
+-- memory ran out before anything was found; before all texts were accepted no read failed, and
+-- each source that was opened is closed
 pub record IsCut (command : Option Named) (old new : StoreSeen) : Type 0 where
   pub reads : OnlyReads old new
   pub cause :
-      NoReadFailed old new
+      RanOut old new
       ⊎ ((named : Named) × (command ≡ Some named) × IsAsked old.held named)
 
 -- what a call found while it only read the store, or that memory ran out
@@ -102,12 +119,15 @@ abbrev pub IsStopped : Option Named → StoreSeen → StoreSeen → SinkSeen →
 IsStopped command old new before after =
     (IsCut command old new × (after ≡ before)) ⊎ IsCutShort command old new before after
 
--- there is no report, nothing else of the store has changed, and nothing else was printed except a
--- prefix of the line that says so
+-- there is no report, nothing else of the store has changed, and nothing else was printed except
+-- the line that says so, whole unless the sink counted why not; before that line no write failed,
+-- and with it one at most
 pub record GivesUp (command : Option Named) (outcome : Outcome) (old new : StoreSeen)
     (before after : SinkSeen) : Type 0 where
   pub report : outcome.report ≡ None
   -- the sink before that line
   pub told : SinkSeen
   pub stopped : IsStopped command old new before told
-  pub line : AppendsFront told.written after.written memory_line
+  pub line : IsLastLine before told after
+  pub kept : before.faults ≤ after.faults
+  pub one : after.faults ≤ before.faults + 1

@@ -12,9 +12,10 @@ use Rattle.run_reports.specs.declared.reports.MemberReport.{MemberReport}
 use Rattle.run_reports.specs.declared.reports.RunReport.{RunReport}
 use Rattle.setup_text.specs.declared.setups.Setup.{Setup}
 use Rattle.tap_forward.specs.Bridges.{sent_for, skipped_for}
-use Rattle.tap_outside.specs.Seen.{NoReadFailed, StoreSeen}
+use Rattle.tap_outside.specs.Seen.{StoreSeen}
 use Rattle.tap_printing.specs.Lines.{send_lines, summary_of}
 use Rattle.tap_printing.specs.Refusals.{setup_refusal, text_refusal}
+use Rattle.tap_reading.specs.Fronts.{ReadTexts}
 use Rattle.tap_reading.specs.declared.stops.Stop.{Stop}
 use Rattle.tap_reading.specs.declared.stops.Stop.TheVariants as stops
 use Rattle.run_reports.specs.Members.{AreShort}
@@ -64,16 +65,17 @@ abbrev pub faults_in : List CpuLog → ℕ
 faults_in [] = 0
 faults_in (log ∷ logs) = fault_at log.end + faults_in logs
 
--- A command finds this in a store. As many captures end with a fault as reading failed, or fewer.
--- Where no text can't be read and no capture ends with a fault no read failed.
+-- A command finds this in a store; each source that it opened is closed. As many captures end with
+-- a fault as reading failed, or fewer. Where no text can't be read and no capture ends with a fault
+-- no read failed.
 abbrev pub IsFound : Option Named → StoreSeen → StoreSeen → Finding → Type 0
-IsFound None old new finding.NoCommand = NoReadFailed old new
+IsFound None old new finding.NoCommand = ReadTexts old new []
 IsFound None old new found = ⊥
 IsFound (Some named) old new finding.NoCommand = ⊥
 IsFound (Some named) old new finding.Unread = CantReadText old new named
 IsFound (Some named) old new (finding.BadSetup error) = HasBadSetup old new named error
 IsFound (Some named) old new (finding.BadText error) = HasBadText old new named error
-IsFound (Some named) old new finding.Checked = IsChecked old.held named × NoReadFailed old new
+IsFound (Some named) old new finding.Checked = IsChecked old new named
 IsFound (Some named) old new (finding.Ran rings setup report forwards) =
     IsReported old new named setup report
     × IsCounted old new (faults_in report.cpus)

@@ -1,61 +1,95 @@
 -- What the sources of a command gave, by the record of the store that took them back: an entry for
--- each source, all bytes that its reads gave, and an empty one for each fetch that failed.
-use Rattle.std.specs.Prelude.{◌≡◌, ℕ, ◌+◌, List, [], ◌∷◌, ◌++◌, length, map, if◌then◌else◌}
-use Rattle.std.specs.Prelude.{Option, None, Some, unwrap_or}
-use Rattle.setup_text.specs.declared.commands.Command.{Command}
+-- each source, with its name and all bytes that its reads gave, and an empty one for each fetch
+-- that failed.
+use Rattle.std.specs.Prelude.{◌≡◌, ℕ, Bool, false, true, List, [], ◌∷◌, ◌++◌, if◌then◌else◌, ⊤}
+use Rattle.std.specs.Prelude.{Option, None, Some}
+use Rattle.capture_file.specs.declared.cpu_end.CpuEnd.{CpuEnd}
+use Rattle.capture_file.specs.declared.cpu_end.CpuEnd.TheVariants.{Whole, Fault, Damaged}
+use Rattle.setup_text.specs.declared.cpu_setups.CpuSetup.{CpuSetup}
 use Rattle.setup_text.specs.declared.setups.Setup.{Setup}
-use Rattle.tap_outside.specs.Seen.{NoReadFailed, StoreSeen}
-use Rattle.tap_engine.specs.Commands.{has_schedule}
+use Rattle.tap_outside.specs.Records.{Took}
+use Rattle.tap_outside.specs.Seen.{Entry, SourcesSeen, missed_entry}
+use Rattle.tap_reading.specs.Fronts.{text_entry}
+use Rattle.tap_engine.specs.Commands.{Named, has_schedule}
 use Rattle.tap_engine.specs.Names.{filter_for, ticks_for}
 
 -- ---- texts
 
--- one text, where it has a name
-abbrev pub one_named : Option (List ℕ) → ℕ
-one_named None = 0
-one_named (Some name) = 1
+-- what the texts of a command gave; one that isn't read is empty
+pub record Texts : Type 0 where
+  pub setup : List ℕ
+  pub filter : List ℕ
+  -- the schedule, or the moments
+  pub last : List ℕ
 
--- how many texts a command reads first: its setup, and the filter where it reads one
-abbrev pub first_texts : Command → Setup → ℕ
-first_texts command setup = 1 + one_named (filter_for command setup)
+-- the entry of a text, where it has a name
+abbrev pub named_entry : Option (List ℕ) → List ℕ → List Entry
+named_entry None text = []
+named_entry (Some name) text = text_entry name text ∷ []
 
--- how many it reads after them: its schedule where it has one, else the moments where it reads some
-abbrev pub last_texts : Command → Setup → ℕ
-last_texts command setup =
-    if has_schedule command then 1 else one_named (ticks_for command setup)
+-- the texts that a command reads first: its setup, and the filter where it reads one
+abbrev pub first_texts : Named → Setup → Texts → List Entry
+first_texts named setup texts =
+    text_entry named.setup texts.setup
+    ∷ named_entry (filter_for named.command setup) texts.filter
 
--- how many it reads in all
-abbrev pub all_texts : Command → Setup → ℕ
-all_texts command setup = first_texts command setup + last_texts command setup
+-- those that it reads after them: its schedule where it has one, else the moments where it reads
+-- some
+abbrev pub last_texts : Named → Setup → Texts → List Entry
+last_texts named setup texts =
+    if has_schedule named.command then text_entry named.schedule texts.last ∷ []
+    else named_entry (ticks_for named.command setup) texts.last
 
--- this number of texts was read, and nothing else, and no read failed
-pub record ReadTexts (old new : StoreSeen) (many : ℕ) : Type 0 where
-  pub unfailed : NoReadFailed old new
-  -- what they gave
-  pub texts : List (List ℕ)
-  pub count : length texts ≡ many
-  pub record_is : new.closed ≡ old.closed ++ texts
+-- all that it reads
+abbrev pub all_texts : Named → Setup → Texts → List Entry
+all_texts named setup texts = first_texts named setup texts ++ last_texts named setup texts
 
 -- ---- captures
 
--- an empty entry for each capture that couldn't be fetched
-abbrev pub missing_entries : {A : Type 0} → List (Option A) → List (List ℕ)
-missing_entries [] = []
-missing_entries (None ∷ sources) = [] ∷ missing_entries sources
-missing_entries (Some source ∷ sources) = missing_entries sources
+-- whether a capture that ended so was left because reading failed
+abbrev pub has_failed : CpuEnd → Bool
+has_failed Fault = true
+has_failed Whole = false
+has_failed (Damaged damage) = false
 
--- and what each of the others gave
-abbrev pub given_entries : List (Option (List ℕ)) → List (List ℕ)
+-- the entry of a capture that gave these bytes and ended so, whether or not its source was opened
+abbrev pub capture_entry : List ℕ → Bool → List ℕ → CpuEnd → Entry
+capture_entry its_name was_opened given end =
+    record { name = its_name; opened = was_opened; bytes = given; failed = has_failed end }
+
+-- what the source of a CPU's capture gave, under the name of its file; nothing without one
+abbrev pub IsEntryOf : CpuSetup → List ℕ → CpuEnd → Option Entry → Type 0
+IsEntryOf cpu bytes end None = (bytes ≡ []) × (end ≡ Fault)
+IsEntryOf cpu bytes end (Some entry) = entry ≡ capture_entry cpu.file true bytes end
+
+-- that of each CPU
+abbrev pub AreEntries :
+    List CpuSetup → List (List ℕ) → List CpuEnd → List (Option Entry) → Type 0
+AreEntries [] [] [] [] = ⊤
+AreEntries (cpu ∷ cpus) (bytes ∷ all) (end ∷ ends) (source ∷ sources) =
+    IsEntryOf cpu bytes end source × AreEntries cpus all ends sources
+AreEntries cpus all ends sources = ⊥
+
+-- an entry for each capture that couldn't be fetched, under the name of its file
+abbrev pub missing_entries : {A : Type 0} → List CpuSetup → List (Option A) → List Entry
+missing_entries (cpu ∷ cpus) (None ∷ sources) =
+    missed_entry cpu.file ∷ missing_entries cpus sources
+missing_entries (cpu ∷ cpus) (Some source ∷ sources) = missing_entries cpus sources
+missing_entries cpus sources = []
+
+-- and those of the others
+abbrev pub given_entries : List (Option Entry) → List Entry
 given_entries [] = []
 given_entries (None ∷ sources) = given_entries sources
-given_entries (Some bytes ∷ sources) = bytes ∷ given_entries sources
+given_entries (Some entry ∷ sources) = entry ∷ given_entries sources
 
--- The bytes of each CPU are exactly those that its capture's source gave, and none where it
--- couldn't be fetched. The record of the store grows by them and by nothing else: first by the
--- empty entries of the captures that couldn't be fetched, then by those of the others in the CPUs'
--- order.
-pub record AreGiven (before after bytes : List (List ℕ)) : Type 0 where
-  -- what the source of each CPU gave, if there was one
-  pub sources : List (Option (List ℕ))
-  pub bytes_are : bytes ≡ map (λ source. unwrap_or source []) sources
-  pub record_is : after ≡ before ++ (missing_entries sources ++ given_entries sources)
+-- The bytes of each CPU are exactly those that the source of its capture gave, and none where it
+-- couldn't be fetched. Each source was opened once and is closed. The record of the store grows by
+-- them and by nothing else: first by the empty entries of the captures that couldn't be fetched,
+-- then by those of the others in the CPUs' order.
+pub record AreGiven (before after : SourcesSeen) (cpus : List CpuSetup) (bytes : List (List ℕ))
+    (ends : List CpuEnd) : Type 0 where
+  -- the entry of each CPU's source, if there was one
+  pub sources : List (Option Entry)
+  pub entries : AreEntries cpus bytes ends sources
+  pub took : Took before after (missing_entries cpus sources ++ given_entries sources)

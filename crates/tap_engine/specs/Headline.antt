@@ -15,14 +15,14 @@ use Rattle.setup_text.specs.declared.jobs.Job.{Job}
 use Rattle.run_reports.specs.declared.reports.RunReport.{RunReport}
 use Rattle.setup_text.specs.declared.setups.Setup.{Setup}
 use Rattle.tap_outside.specs.Contents.{Contents}
-use Rattle.tap_outside.specs.Seen.{StoreSeen}
-use Rattle.tap_reading.specs.Fronts.{IsAllOf, IsFrontOf}
+use Rattle.tap_outside.specs.Seen.{SourcesSeen, StoreSeen}
+use Rattle.tap_reading.specs.Fronts.{IsAllOf, IsFrontOf, ReadTexts}
 use Rattle.run_reports.specs.Reports.{IsRunReport}
 use Rattle.run_reports.specs.RingRules.{RingRules, rules_by}
 use Rattle.replay_machine.specs.Runs.{report_of}
 use Rattle.capture_reading.specs.Sources.{EndsAtDamage, UnlessFault, WhereEnded, WhereFault, end_by}
 use Rattle.tap_engine.specs.Commands.{Named, rings_of}
-use Rattle.tap_engine.specs.Given.{AreGiven, ReadTexts, all_texts}
+use Rattle.tap_engine.specs.Given.{AreGiven, Texts, all_texts}
 use Rattle.tap_engine.specs.Jobs.{HasJob, HasLines, HasTicks}
 
 -- the capture under a name gave these bytes, from its start, and ended in this way
@@ -61,66 +61,74 @@ CapturesFor Forward held setup bytes ends = AreCaptures held setup.cpus bytes en
 CapturesFor Send held setup bytes ends = ⊥
 
 -- how the record of the store grew by the captures of a run: by exactly what their sources gave,
--- also where reading failed, and under `make`, which reads no capture, by nothing
-abbrev pub GivenFor : Command → List (List ℕ) → List (List ℕ) → List (List ℕ) → Type 0
-GivenFor Check before after bytes = ⊥
-GivenFor Make before after bytes = after ≡ before
-GivenFor Replay before after bytes = AreGiven before after bytes
-GivenFor Replay2 before after bytes = AreGiven before after bytes
-GivenFor Capture before after bytes = AreGiven before after bytes
-GivenFor Forward before after bytes = AreGiven before after bytes
-GivenFor Send before after bytes = ⊥
+-- each opened once under the name of its file and closed, also where reading failed, and under
+-- `make`, which reads no capture, by nothing
+abbrev pub GivenFor : Command → SourcesSeen → SourcesSeen → List CpuSetup → List (List ℕ)
+    → List CpuEnd → Type 0
+GivenFor Check before after cpus bytes ends = ⊥
+GivenFor Make before after cpus bytes ends = after ≡ before
+GivenFor Replay before after cpus bytes ends = AreGiven before after cpus bytes ends
+GivenFor Replay2 before after cpus bytes ends = AreGiven before after cpus bytes ends
+GivenFor Capture before after cpus bytes ends = AreGiven before after cpus bytes ends
+GivenFor Forward before after cpus bytes ends = AreGiven before after cpus bytes ends
+GivenFor Send before after cpus bytes ends = ⊥
 
 -- the rules of the rings of a command's members
 abbrev pub rules_for : Command → Job → RingRules
 rules_for command job = rules_by (rings_of command) job.setup.shape
 
--- the report is that of the command's lines
-pub record IsReplayOf (held : Option Contents) (named : Named) (job : Job) (bytes : List (List ℕ))
-    (ends : List CpuEnd) (report : RunReport) : Type 0 where
+-- the report is that of the command's lines, by the text of its schedule
+pub record IsReplayOf (held : Option Contents) (named : Named) (job : Job) (text : List ℕ)
+    (bytes : List (List ℕ)) (ends : List CpuEnd) (report : RunReport) : Type 0 where
   pub lines : List Line
-  pub lines_are : HasLines held named job lines
+  pub lines_are : HasLines held named job text lines
   pub replay : report ≡ report_of (rules_for named.command job) job lines bytes ends
 
--- the moments that the setup names were reported to the members, each once and in order, and the
--- report holds their finished rings
-pub record IsCaptureOf (held : Option Contents) (job : Job) (report : RunReport) : Type 0 where
+-- the moments of the text that the setup names were reported to the members, each once and in
+-- order, and the report holds their finished rings
+pub record IsCaptureOf (held : Option Contents) (job : Job) (text : List ℕ) (report : RunReport)
+    : Type 0 where
   pub moments : List ℕ
-  pub moments_are : HasTicks held job.setup.ticks moments
+  pub moments_are : HasTicks held job.setup.ticks text moments
   pub captured : IsCaptured job.setup.shape moments report
 
 -- what a command adds to what holds of every report: `replay`, `replay2` and `make` replay their
 -- lines, and `capture` and `forward` report their moments
-abbrev pub IsRunOf :
-    Command → Option Contents → Named → Job → List (List ℕ) → List CpuEnd → RunReport → Type 0
-IsRunOf Check held named job bytes ends report = ⊥
-IsRunOf Make held named job bytes ends report = IsReplayOf held named job bytes ends report
-IsRunOf Replay held named job bytes ends report = IsReplayOf held named job bytes ends report
-IsRunOf Replay2 held named job bytes ends report = IsReplayOf held named job bytes ends report
-IsRunOf Capture held named job bytes ends report = IsCaptureOf held job report
-IsRunOf Forward held named job bytes ends report = IsCaptureOf held job report
-IsRunOf Send held named job bytes ends report = ⊥
+abbrev pub IsRunOf : Command → Option Contents → Named → Job → List ℕ → List (List ℕ)
+    → List CpuEnd → RunReport → Type 0
+IsRunOf Check held named job text bytes ends report = ⊥
+IsRunOf Make held named job text bytes ends report =
+    IsReplayOf held named job text bytes ends report
+IsRunOf Replay held named job text bytes ends report =
+    IsReplayOf held named job text bytes ends report
+IsRunOf Replay2 held named job text bytes ends report =
+    IsReplayOf held named job text bytes ends report
+IsRunOf Capture held named job text bytes ends report = IsCaptureOf held job text report
+IsRunOf Forward held named job text bytes ends report = IsCaptureOf held job text report
+IsRunOf Send held named job text bytes ends report = ⊥
 
 -- A report is that of the setup, the filter and the captures under their names, as the store had
--- them before; its captures are what the sources gave that the store has taken back since.
+-- them before; its texts and captures are what the sources of these names gave, as the store has
+-- recorded since.
 pub record IsHeadline (old new : StoreSeen) (named : Named) (report : RunReport) : Type 0 where
   -- the texts are accepted
+  pub texts : Texts
   pub job : Job
-  pub job_is : HasJob old.held named job
-  -- the store after they were read, each once, and no read had failed
+  pub job_is : HasJob old.held named texts job
+  -- the store after just these were read, each once, and no read had failed
   pub read : StoreSeen
-  pub texts : ReadTexts old read (all_texts named.command job.setup)
+  pub read_is : ReadTexts old read (all_texts named job.setup texts)
   -- what the captures gave, and how they ended
   pub bytes : List (List ℕ)
   pub ends : List CpuEnd
   pub captures : CapturesFor named.command old.held job.setup bytes ends
-  -- all that their sources gave, each read once, whether reading failed or not
-  pub given : GivenFor named.command read.closed new.closed bytes
+  -- all that their sources gave, each opened once and closed, whether reading failed or not
+  pub given : GivenFor named.command read.sources new.sources job.setup.cpus bytes ends
   -- what holds of every report: its logs, its members, and that each arrival that passes appears
   -- once
   pub report_is : IsRunReport (rules_for named.command job) job bytes ends report
   -- what the command adds
-  pub run : IsRunOf named.command old.held named job bytes ends report
+  pub run : IsRunOf named.command old.held named job texts.last bytes ends report
 
 -- a report, if there is one, guarantees that, and the words were a command
 abbrev pub IsWorth : Option Named → StoreSeen → StoreSeen → Option RunReport → Type 0

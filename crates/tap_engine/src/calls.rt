@@ -1,12 +1,11 @@
 //! The top calls.
-ghost use Rattle.std.specs.Prelude.{◌≡◌, ◌≢◌, None, Option, IfOk, IsTrue, OnErr};
+ghost use Rattle.std.specs.Prelude.{◌≡◌, ◌≢◌, ◌≤◌, ◌+◌, None, Option, IfOk, IsTrue, OnErr};
 ghost use Rattle.std.specs.List.{AllByRecursion};
 ghost use Rattle.tap_outside.specs.Seen.{StoreSeen};
-ghost use Rattle.tap_outside.specs.Sinks.{AppendsFront};
 ghost use Rattle.tap_engine.specs.inside.Answers.{IsAnswer};
 ghost use Rattle.tap_engine.specs.Commands.{Named, command_of, plain_command};
 ghost use Rattle.tap_engine.specs.Complete.{IsComplete};
-ghost use Rattle.tap_engine.specs.Conclusions.{GivesUp, IsSearched, IsStopped, Tells, memory_line};
+ghost use Rattle.tap_engine.specs.Conclusions.{GivesUp, IsLastLine, IsSearched, IsStopped, Tells};
 ghost use Rattle.tap_engine.specs.Faults.{IsFaultless};
 ghost use Rattle.tap_engine.specs.Findings.{IsReady, names_of};
 ghost use Rattle.tap_engine.specs.Headline.{IsWorth};
@@ -61,7 +60,8 @@ pub fn run<S: Store, O: Sink, G: Gate + Sync, R: Threads + Wait + Sync>(
         (S.seen store.old) (S.seen store.new) (O.seen out.old) (O.seen out.new) }
 
     // If memory ran out: there is no report, only files of what was found have changed, and a
-    // prefix of its lines was printed, followed by a prefix of `out of memory`.
+    // prefix of its lines was printed, followed by `out of memory`, whole unless a write failed or
+    // ran out of memory too.
     ensures gave_up { result.status ≡ Status.Memory → GivesUp (command_of words.now) result
         (S.seen store.old) (S.seen store.new) (O.seen out.old) (O.seen out.new) }
 
@@ -115,7 +115,8 @@ pub fn run_plain<S: Store, O: Sink>(
         (S.seen store.old) (S.seen store.new) (O.seen out.old) (O.seen out.new) }
 
     // If memory ran out: there is no report, only files of what was found have changed, and a
-    // prefix of its lines was printed, followed by a prefix of `out of memory`.
+    // prefix of its lines was printed, followed by `out of memory`, whole unless a write failed or
+    // ran out of memory too.
     ensures gave_up { result.status ≡ Status.Memory → GivesUp (plain_command words.now) result
         (S.seen store.old) (S.seen store.new) (O.seen out.old) (O.seen out.new) }
 
@@ -175,11 +176,13 @@ fn attempt<S: Store, O: Sink>(
     conclude(alloc, finding, store, out)
 }
 
-/// Prints once that memory ran out, if the sink takes it.
+/// Prints once that memory ran out, whole unless a write failed or ran out of memory too.
 fn give_up<O: Sink>(out: &mut O) -> Outcome
     ensures status { result.status ≡ Status.Memory }
     ensures report { result.report ≡ None }
-    ensures line { AppendsFront (O.seen out.old).written (O.seen out.new).written memory_line }
+    ensures line { IsLastLine (O.seen out.old) (O.seen out.old) (O.seen out.new) }
+    ensures kept { (O.seen out.old).faults ≤ (O.seen out.new).faults }
+    ensures one { (O.seen out.new).faults ≤ (O.seen out.old).faults + 1 }
 {
     let _ = write_whole(out, b"out of memory\n");
     Outcome {

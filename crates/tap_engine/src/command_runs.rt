@@ -8,6 +8,7 @@ ghost use Rattle.tap_engine.specs.Commands.{rings_of};
 ghost use Rattle.tap_engine.specs.Conclusions.{IsSearched};
 ghost use Rattle.tap_engine.specs.inside.Dones.{finding_by};
 ghost use Rattle.tap_engine.specs.Findings.{IsFound, IsReady, finding_of};
+ghost use Rattle.tap_engine.specs.Given.{Texts};
 ghost use Rattle.tap_engine.specs.Jobs.{HasJob, IsLoaded, Stops};
 ghost use Rattle.tap_engine.specs.Names.{AreMeantToRead};
 
@@ -126,20 +127,22 @@ impl Done {
 /// Carries out a command on one thread, after its setup and its filter.
 fn work<S: Store>(alloc: Global, asked: Asked<'_>, job: &Job, store: &mut S) -> Result<Done, Stop>
     requires plain { is_threaded asked.command ≡ false }
-    requires job { HasJob (S.seen store.old).held
-        (named_by asked.command asked.setup.now asked.schedule.now) job.now }
+    requires job { (texts : Texts) × HasJob (S.seen store.old).held
+        (named_by asked.command asked.setup.now asked.schedule.now) texts job.now }
     requires setup { IsSetup job.now.setup }
     requires ring { request_fault asked.command job.now.setup.request ≡ None }
     requires reads { AreMeantToRead
         (Some (named_by asked.command asked.setup.now asked.schedule.now)) (S.seen store.old) }
-    ensures found { IfOk result (λ done. (start : StoreSeen) → IsLoaded start (S.seen store.old)
-        (named_by asked.entry.command asked.entry.setup.now asked.entry.schedule.now) job.now
+    ensures found { IfOk result (λ done. (start : StoreSeen) (texts : Texts)
+        → IsLoaded start (S.seen store.old)
+        (named_by asked.entry.command asked.entry.setup.now asked.entry.schedule.now) texts job.now
         → IsFound
         (Some (named_by asked.entry.command asked.entry.setup.now asked.entry.schedule.now))
         start (S.seen store.new)
         (finding_by (rings_of asked.entry.command) job.now.setup done)) }
-    ensures stop { IfErr result (λ stop. (start : StoreSeen) → IsLoaded start (S.seen store.old)
-        (named_by asked.entry.command asked.entry.setup.now asked.entry.schedule.now) job.now
+    ensures stop { IfErr result (λ stop. (start : StoreSeen) (texts : Texts)
+        → IsLoaded start (S.seen store.old)
+        (named_by asked.entry.command asked.entry.setup.now asked.entry.schedule.now) texts job.now
         → Stops start (S.seen store.new)
         (named_by asked.entry.command asked.entry.setup.now asked.entry.schedule.now) stop) }
     ensures ready { IfOk result (λ done.

@@ -87,6 +87,7 @@ fn save<S: Store>(alloc: Global, finding: &Finding, store: &mut S) -> Result<boo
 }
 
 /// Prints lines, and returns whether all were printed.
+#[tactic(auto, using(crate::proofs::Printed::some_printed))]
 fn print<O: Sink>(out: &mut O, lines: &[u8]) -> Result<bool, Memory>
     ensures told { IfOk result (IsPrinted (O.seen out.old) (O.seen out.new) lines.now) }
     ensures cut { OnErr result (PrintedSome (O.seen out.old) (O.seen out.new) lines.now) }

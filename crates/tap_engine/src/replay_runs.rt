@@ -10,6 +10,7 @@ ghost use Rattle.slot_layout.specs.SlotShapes.{IsSlotShape};
 ghost use Rattle.tap_outside.specs.Seen.{OnlyReads, StoreSeen};
 ghost use Rattle.tap_engine.specs.Commands.{Named, has_schedule};
 ghost use Rattle.tap_engine.specs.Faults.{IsCounted};
+ghost use Rattle.tap_engine.specs.Given.{Texts};
 ghost use Rattle.tap_engine.specs.Findings.{IsReported, IsSmall, faults_in};
 ghost use Rattle.tap_engine.specs.Jobs.{HasLines, IsLoaded, IsRead, Stops};
 ghost use Rattle.replay_machine.specs.Runs.{IsReplayed};
@@ -43,13 +44,13 @@ pub(crate) fn replay_scheduled<S: Store>(
     requires schedule { IsTrue ((S.seen store.old).to_read name.now) }
     requires captures { All (λ cpu. IsTrue ((S.seen store.old).to_read cpu.file))
         job.now.setup.cpus }
-    ensures reported { IfOk result (λ report. (start : StoreSeen) (named : Named)
+    ensures reported { IfOk result (λ report. (start : StoreSeen) (named : Named) (texts : Texts)
         → named.command ≡ command → named.schedule ≡ name.now
-        → IsLoaded start (S.seen store.old) named job.now
+        → IsLoaded start (S.seen store.old) named texts job.now
         → IsReported start (S.seen store.new) named job.now.setup report) }
-    ensures stop { IfErr result (λ stop. (start : StoreSeen) (named : Named)
+    ensures stop { IfErr result (λ stop. (start : StoreSeen) (named : Named) (texts : Texts)
         → named.command ≡ command → named.schedule ≡ name.now
-        → IsLoaded start (S.seen store.old) named job.now
+        → IsLoaded start (S.seen store.old) named texts job.now
         → Stops start (S.seen store.new) named stop) }
     ensures faults { IfOk result (λ report. IsCounted (S.seen store.old) (S.seen store.new)
         (faults_in report.cpus)) }
@@ -75,9 +76,9 @@ fn replay_captures<S: Store>(
     requires few { length schedule.now ≤ 1048576 }
     requires captures { All (λ cpu. IsTrue ((S.seen store.old).to_read cpu.file))
         job.now.setup.cpus }
-    ensures reported { IfOk result (λ report. (start : StoreSeen) (named : Named)
-        → named.command ≡ command → IsRead start (S.seen store.old) named job.now
-        → HasLines start.held named job.now schedule.now
+    ensures reported { IfOk result (λ report. (start : StoreSeen) (named : Named) (texts : Texts)
+        → named.command ≡ command → IsRead start (S.seen store.old) named texts job.now
+        → HasLines start.held named job.now texts.last schedule.now
         → IsReported start (S.seen store.new) named job.now.setup report) }
     ensures faults { IfOk result (λ report. IsCounted (S.seen store.old) (S.seen store.new)
         (faults_in report.cpus)) }
@@ -117,8 +118,8 @@ fn replay_over<I: Source>(
 /// Replays a job over the captures of the frames that its setup has made. No source fails.
 pub(crate) fn replay_made(alloc: Global, job: &Job) -> Result<RunReport, Memory>
     requires setup { IsSetup job.now.setup }
-    ensures reported { IfOk result (λ report. (old new : StoreSeen) (named : Named)
-        → named.command ≡ Make → IsRead old new named job.now
+    ensures reported { IfOk result (λ report. (old new : StoreSeen) (named : Named) (texts : Texts)
+        → named.command ≡ Make → IsRead old new named texts job.now
         → IsReported old new named job.now.setup report) }
     ensures faults { IfOk result (λ report. faults_in report.cpus ≡ 0) }
     ensures small { IfOk result IsSmall }

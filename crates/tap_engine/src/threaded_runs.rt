@@ -7,6 +7,7 @@ ghost use Rattle.tap_outside.specs.Seen.{OnlyReads, StoreSeen};
 ghost use Rattle.tap_saving.specs.Files.{CanBeOutput};
 ghost use Rattle.tap_engine.specs.Commands.{Named, is_threaded};
 ghost use Rattle.tap_engine.specs.Faults.{IsCounted};
+ghost use Rattle.tap_engine.specs.Given.{Texts};
 ghost use Rattle.tap_engine.specs.Findings.{IsReported, IsSentBy, IsSmall, faults_in};
 ghost use Rattle.tap_engine.specs.Jobs.{HasTicks, IsLoaded, IsRead, Stops};
 
@@ -48,12 +49,12 @@ pub(crate) fn run_timed<S: Store, G: Gate + Sync, R: Threads + Wait + Sync>(
         (λ name. IsTrue ((S.seen store.old).to_read name)) }
     requires captures { All (λ cpu. IsTrue ((S.seen store.old).to_read cpu.file))
         job.now.setup.cpus }
-    ensures reported { IfOk result (λ run. (start : StoreSeen) (named : Named)
-        → is_threaded named.command ≡ true → IsLoaded start (S.seen store.old) named job.now
+    ensures reported { IfOk result (λ run. (start : StoreSeen) (named : Named) (texts : Texts)
+        → is_threaded named.command ≡ true → IsLoaded start (S.seen store.old) named texts job.now
         → IsReported start (S.seen store.new) named job.now.setup run.report) }
     ensures sent { IfOk result (λ run. IsSentBy sends job.now.setup run.report run.forwards) }
-    ensures stop { IfErr result (λ stop. (start : StoreSeen) (named : Named)
-        → is_threaded named.command ≡ true → IsLoaded start (S.seen store.old) named job.now
+    ensures stop { IfErr result (λ stop. (start : StoreSeen) (named : Named) (texts : Texts)
+        → is_threaded named.command ≡ true → IsLoaded start (S.seen store.old) named texts job.now
         → Stops start (S.seen store.new) named stop) }
     ensures faults { IfOk result (λ run. IsCounted (S.seen store.old) (S.seen store.new)
         (faults_in run.report.cpus)) }
@@ -80,9 +81,9 @@ fn run_captures<S: Store, G: Gate + Sync, R: Threads + Wait + Sync>(
     requires moments { AreMoments moments.now }
     requires captures { All (λ cpu. IsTrue ((S.seen store.old).to_read cpu.file))
         job.now.setup.cpus }
-    ensures reported { IfOk result (λ run. (start : StoreSeen) (named : Named)
-        → is_threaded named.command ≡ true → IsRead start (S.seen store.old) named job.now
-        → HasTicks start.held job.now.setup.ticks moments.now
+    ensures reported { IfOk result (λ run. (start : StoreSeen) (named : Named) (texts : Texts)
+        → is_threaded named.command ≡ true → IsRead start (S.seen store.old) named texts job.now
+        → HasTicks start.held job.now.setup.ticks texts.last moments.now
         → IsReported start (S.seen store.new) named job.now.setup run.report) }
     ensures sent { IfOk result (λ run. IsSentBy sends job.now.setup run.report run.forwards) }
     ensures faults { IfOk result (λ run. IsCounted (S.seen store.old) (S.seen store.new)

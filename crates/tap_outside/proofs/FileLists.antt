@@ -1,6 +1,7 @@
 -- A list of files after one is put.
 use Rattle.std.proofs.Common.{◌≡◌, ◌≢◌, ℕ, true, false, List, [], ◌∷◌, ◌++◌, length, ◌<◌, ◌≤◌, set, get_or, Option, None, Some}
-use Rattle.std.proofs.Common.{position, bytes_eq, arith, rules, refl, sym, ◌∙◌}
+use Rattle.std.proofs.Common.{Bool, position, bytes_eq, find, arith, rules, refl, sym, ap, ◌∙◌}
+use Rattle.std.specs.Prelude.{if◌then◌else◌}
 use Rattle.std.specs.List.{position_or_len}
 use Rattle.std.specs.Option.{option_or}
 use Rattle.std.proofs.lemmas.Bool.Decides.{nat_tests}
@@ -66,3 +67,19 @@ PutsFile-push files file absent = record {
   others = λ other differs. rw (find-append, other_name file.name other differs)
       (option_or-None (file_of files other));
 }
+
+-- what is found under a name has that name
+pub named_file : (files : List HeldFile) (name : List ℕ) (file : HeldFile)
+    → file_of files name ≡ Some file → file.name ≡ name
+named_file [] name file found = cc
+named_file (f ∷ files) name file found = by (bytes_eq f.name name) refl
+    (λ e. named_file files name file e) found where
+      same : ◌≡◌ {A = Option HeldFile} (Some f) (Some file) → f ≡ file
+      same e = cc
+
+      by : (b : Bool) → bytes_eq f.name name ≡ b
+          → (file_of files name ≡ Some file → file.name ≡ name)
+          → (if b then Some f else file_of files name) ≡ Some file → file.name ≡ name
+      by true is rest e =
+          ap (λ (x : HeldFile). x.name) (sym (same e)) ∙ one_name f.name name is
+      by false is rest e = rest e

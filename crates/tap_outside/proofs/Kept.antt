@@ -27,7 +27,7 @@ OnlyReads-same old new e = subst (λ (s : StoreSeen). OnlyReads old s) (sym e) (
 pub OnlyReads-then : (a b c : StoreSeen) → OnlyReads a b → OnlyReads b c → OnlyReads a c
 OnlyReads-then a b c first second = record {
   same = second.same
-      ∙ ap (λ (s : StoreSeen). record s { read_faults = c.read_faults; closed = c.closed }) first.same;
+      ∙ ap (λ (s : StoreSeen). record s { read_faults = c.read_faults; sources = c.sources }) first.same;
   later = let x = first.later in let y = second.later in omega (arith, x, y);
 }
 

@@ -20,14 +20,18 @@ pub record MemSinkState : Type 0 where
   pub writes : ℕ
   -- the number of those that failed
   pub faults : ℕ
+  -- the number of writes that ran out of memory
+  pub refused : ℕ
 
 -- the view of such a sink: it reports what was written
 abbrev pub seen_sink : MemSinkState → SinkSeen
-seen_sink sink = record { written = Some sink.written; faults = sink.faults }
+seen_sink sink =
+    record { written = Some sink.written; faults = sink.faults; refused = sink.refused }
 
 -- a sink before its first write
 abbrev pub fresh_sink : List ℕ → MemSinkState
-fresh_sink numbers = record { written = []; failing = numbers; writes = 0; faults = 0 }
+fresh_sink numbers =
+    record { written = []; failing = numbers; writes = 0; faults = 0; refused = 0 }
 
 -- a sink after a write of these bytes
 abbrev pub after_write : MemSinkState → List ℕ → MemSinkState
@@ -38,3 +42,7 @@ after_write sink bytes =
 abbrev pub after_failed_write : MemSinkState → MemSinkState
 after_failed_write sink =
     record sink { writes = counted sink.writes; faults = counted sink.faults }
+
+-- a sink after a write that ran out of memory
+abbrev pub after_refusal : MemSinkState → MemSinkState
+after_refusal sink = record sink { refused = counted sink.refused }

@@ -5,6 +5,8 @@ use Rattle.tap_outside.specs.Seen.{SourceSeen}
 
 -- a source in memory
 pub record MemSourceState : Type 0 where
+  -- the name of its file; no byte where it isn't that of one
+  pub name : List ℕ
   -- the bytes still to come
   pub left : List ℕ
   -- the bytes that its reads gave so far
@@ -21,12 +23,25 @@ pub record MemSourceState : Type 0 where
 -- the view of such a source: it reports what is left
 abbrev pub seen_source : MemSourceState → SourceSeen
 seen_source source =
-    record { left = Some source.left; given = source.given; faults = source.faults }
+    record {
+      name = source.name;
+      left = Some source.left;
+      given = source.given;
+      faults = source.faults;
+    }
 
 -- a source before its first read
 abbrev pub fresh_source : List ℕ → ℕ → List ℕ → MemSourceState
 fresh_source bytes most numbers =
-    record { left = bytes; given = []; piece = most; failing = numbers; reads = 0; faults = 0 }
+    record {
+      name = [];
+      left = bytes;
+      given = [];
+      piece = most;
+      failing = numbers;
+      reads = 0;
+      faults = 0;
+    }
 
 -- a source after a read of n bytes
 abbrev pub after_read : MemSourceState → ℕ → MemSourceState
@@ -48,6 +63,8 @@ read_length source room = min room (min source.piece (length source.left))
 
 -- a source in memory that never fails
 pub record SureSourceState : Type 0 where
+  -- the name of its file; no byte where it isn't that of one
+  pub name : List ℕ
   -- the bytes still to come
   pub left : List ℕ
   -- the bytes that its reads gave so far
@@ -55,8 +72,9 @@ pub record SureSourceState : Type 0 where
 
 -- the view of such a source: it reports what is left, and has no fault
 abbrev pub seen_sure_source : SureSourceState → SourceSeen
-seen_sure_source source = record { left = Some source.left; given = source.given; faults = 0 }
+seen_sure_source source =
+    record { name = source.name; left = Some source.left; given = source.given; faults = 0 }
 
 -- such a source before its first read
 abbrev pub unread_sure_source : List ℕ → SureSourceState
-unread_sure_source bytes = record { left = bytes; given = [] }
+unread_sure_source bytes = record { name = []; left = bytes; given = [] }

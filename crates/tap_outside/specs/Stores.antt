@@ -1,9 +1,10 @@
 -- The state of stores in memory.
-use Rattle.std.specs.Prelude.{◌≡◌, ◌≢◌, ℕ, List, [], ◌∷◌, ◌++◌, Option, Some, IsNone, ◌⊎◌, Contains}
+use Rattle.std.specs.Prelude.{◌≡◌, ◌≢◌, ℕ, List, [], Option, Some, IsNone, ◌⊎◌, Contains}
 use Rattle.std.specs.Prelude.{find, bytes_eq, option_map}
 use Rattle.tap_outside.specs.Contents.{Contents}
 use Rattle.tap_outside.specs.Counts.{counted}
-use Rattle.tap_outside.specs.Seen.{StoreSeen, meant_store}
+use Rattle.tap_outside.specs.Seen.{Entry, SourcesSeen, StoreSeen, and_closed, and_opened}
+use Rattle.tap_outside.specs.Seen.{meant_store, missed_entry, no_sources}
 use Rattle.tap_outside.specs.Sources.{MemSourceState, fresh_source}
 
 -- a file in memory
@@ -31,7 +32,7 @@ contents_of files name = option_map (λ file. file.bytes) (file_of files name)
 
 -- a source of a file, before its first read
 abbrev pub source_of : HeldFile → MemSourceState
-source_of file = fresh_source file.bytes file.piece file.failing
+source_of file = record (fresh_source file.bytes file.piece file.failing) { name = file.name }
 
 -- the file is under its name, and every other name has the file that it had
 pub record PutsFile (old new : List HeldFile) (file : HeldFile) : Type 0 where
@@ -52,15 +53,15 @@ pub record MemStoreState : Type 0 where
   pub saves : ℕ
   -- the number of fetches that failed, and of sources that had a fault when they were closed
   pub read_faults : ℕ
-  -- for each source that was closed the bytes that it gave, and for each fetch that failed none
-  pub closed : List (List ℕ)
+  -- the sources that were opened and closed
+  pub sources : SourcesSeen
   -- the number of saves that failed
   pub save_faults : ℕ
 
 -- the view of such a store: it reports what it holds
 abbrev pub seen_store : MemStoreState → StoreSeen
 seen_store store =
-    meant_store (Some (contents_of store.files)) store.closed store.read_faults store.save_faults
+    meant_store (Some (contents_of store.files)) store.sources store.read_faults store.save_faults
 
 -- the next fetch is one that is to fail, or the name isn't held
 abbrev pub FetchFails : MemStoreState → List ℕ → Type 0
@@ -77,31 +78,32 @@ fresh_store fetch_numbers save_numbers =
       fetches = 0;
       saves = 0;
       read_faults = 0;
-      closed = [];
+      sources = no_sources;
       save_faults = 0;
     }
 
--- a store after a fetch
-abbrev pub after_fetch : MemStoreState → MemStoreState
-after_fetch store = record store { fetches = counted store.fetches }
+-- a store after a fetch of this name
+abbrev pub after_fetch : MemStoreState → List ℕ → MemStoreState
+after_fetch store name =
+    record store { fetches = counted store.fetches; sources = and_opened store.sources name }
 
--- a store after a fetch that failed
-abbrev pub after_failed_fetch : MemStoreState → MemStoreState
-after_failed_fetch store =
+-- a store after a fetch of this name that failed
+abbrev pub after_failed_fetch : MemStoreState → List ℕ → MemStoreState
+after_failed_fetch store name =
     record store {
       fetches = counted store.fetches;
       read_faults = counted store.read_faults;
-      closed = store.closed ++ [] ∷ [];
+      sources = and_closed store.sources (missed_entry name);
     }
 
--- a store after it took back a source that gave these bytes and had no fault
-abbrev pub after_close : MemStoreState → List ℕ → MemStoreState
-after_close store given = record store { closed = store.closed ++ given ∷ [] }
+-- a store after it took back a source of this entry, which had no fault
+abbrev pub after_close : MemStoreState → Entry → MemStoreState
+after_close store entry = record store { sources = and_closed store.sources entry }
 
--- a store after it took back a source that gave these bytes and had a fault
-abbrev pub after_faulty_close : MemStoreState → List ℕ → MemStoreState
-after_faulty_close store given =
-    record (after_close store given) { read_faults = counted store.read_faults }
+-- a store after it took back a source of this entry, which had a fault
+abbrev pub after_faulty_close : MemStoreState → Entry → MemStoreState
+after_faulty_close store entry =
+    record (after_close store entry) { read_faults = counted store.read_faults }
 
 -- a store after a save that left it these files
 abbrev pub after_save : MemStoreState → List HeldFile → MemStoreState
@@ -116,9 +118,9 @@ after_failed_save store =
 pub record SureStoreState : Type 0 where
   -- the files; the first one with a name is that name's
   pub files : List HeldFile
-  -- for each source that was closed the bytes that it gave
-  pub closed : List (List ℕ)
+  -- the sources that were opened and closed
+  pub sources : SourcesSeen
 
 -- such a store as each store is seen
 abbrev pub seen_sure_store : SureStoreState → StoreSeen
-seen_sure_store store = meant_store (Some (contents_of store.files)) store.closed 0 0
+seen_sure_store store = meant_store (Some (contents_of store.files)) store.sources 0 0

@@ -1,11 +1,11 @@
 //! Real files. Only the system knows what they hold, so contracts say nothing about their content.
-ghost use Rattle.std.specs.Prelude.{◌≡◌, ◌≤◌, refl, [], map, None, IfOk, OnOk};
+ghost use Rattle.std.specs.Prelude.{◌≡◌, ◌≤◌, refl, None, IfOk, OnOk};
 ghost use Rattle.tap_outside.specs.Counts.{counted};
 ghost use Rattle.tap_outside.specs.Outcomes.{OnFailed, OnMemory};
-ghost use Rattle.tap_outside.specs.Seen.{meant_store, unread_file};
-ghost use Rattle.tap_outside.specs.Records.{given_by};
+ghost use Rattle.tap_outside.specs.Seen.{meant_store, no_sources, unread_file};
 
 use crate::pieces::{PIECE, write_each};
+use crate::source_log::SourceLog;
 use crate::system_calls::read_front;
 use crate::written_file::WrittenFile;
 use crate::{Failed, History, OutError, Pieces, Source, Store, write_whole};
@@ -16,10 +16,13 @@ use std::io::Read;
 use std::marker::Model;
 use std::rt::Files;
 
-/// A real file, open for reading. Contracts see the bytes that its reads gave, how many reads
-/// failed, and what the file tells of the bytes that it has left: one of the system tells nothing.
+/// A real file, open for reading. Contracts see its name, the bytes that its reads gave, how many
+/// reads failed, and what the file tells of the bytes that it has left: one of the system tells
+/// nothing.
 #[derive(Drop)]
 pub struct DiskSource<F: Read> {
+    /// Its name. It takes no memory: only contracts read it.
+    name: History<u8>,
     /// The file, open; it is closed when the source is dropped.
     file: F,
     /// What a read takes from the system, before it goes to the caller.
@@ -37,6 +40,7 @@ impl<F: Read> Model for DiskSource<F> {
     ghost Value = { SourceSeen };
 
     ghost view = { λ source. record {
+      name = source.name.items;
       left = F.remaining source.file;
       given = source.given.items;
       faults = source.faults;
@@ -76,8 +80,8 @@ pub struct DiskStore<'a, R: Files> {
     rt: &'a R,
     /// How many fetches failed, and how many sources had a fault when they were closed.
     read_faults: u64,
-    /// The sources that were closed, and `None` for each fetch that failed.
-    closed: History<Option<DiskSource<R::File>>>,
+    /// The sources that were opened and closed.
+    sources: SourceLog<DiskSource<R::File>>,
     /// How many saves failed.
     save_faults: u64,
 }
@@ -88,12 +92,12 @@ where
 {
     /// The files of this system, with no fault so far. It takes no memory.
     pub fn new(rt: &'a R) -> DiskStore<'a, R>
-        ensures { ⟦<DiskStore<'a, R> as Store>⟧.seen result ≡ meant_store None [] 0 0 }
+        ensures { ⟦<DiskStore<'a, R> as Store>⟧.seen result ≡ meant_store None no_sources 0 0 }
     {
         DiskStore {
             rt,
             read_faults: 0,
-            closed: History::new(),
+            sources: SourceLog::new(),
             save_faults: 0,
         }
     }
@@ -119,14 +123,17 @@ where
 {
     type Input = DiskSource<R::File>;
 
-    ghost seen = { λ store. meant_store None (map given_by store.closed.items)
-        store.read_faults store.save_faults };
+    ghost seen = { λ store. meant_store None store.sources store.read_faults store.save_faults };
 
     fn fetch(&mut self, name: &[u8]) -> Result<DiskSource<R::File>, OutError> {
         let opened = open_source(self.rt, name);
-        if let Err(OutError::Failed) = opened {
-            self.read_faults = self.read_faults.saturating_add(1);
-            self.closed.push(&None);
+        match opened {
+            Ok(_) => self.sources.opened(name),
+            Err(OutError::Failed) => {
+                self.read_faults = self.read_faults.saturating_add(1);
+                self.sources.missed(name);
+            }
+            Err(OutError::Memory) => {}
         }
         opened
     }
@@ -135,7 +142,7 @@ where
         if input.faults > 0 {
             self.read_faults = self.read_faults.saturating_add(1);
         }
-        self.closed.push(&Some(input));
+        self.sources.closed(input);
     }
 
     fn save(&mut self, name: &[u8], bytes: &[u8]) -> Result<(), OutError> {
@@ -160,14 +167,17 @@ where
 
 /// Opens a file for reading. A folder, which the system would open too, is a failure.
 fn open_source<R: Files + AllocGlobal>(rt: &R, name: &[u8]) -> Result<DiskSource<R::File>, OutError>
-    ensures { IfOk result (λ input. input ≡ record unread_file { left = input.left }) }
+    ensures { IfOk result (λ input. input ≡ record (unread_file name.now) { left = input.left }) }
 {
     let path = str::from_utf8(name).map_err(|_| Failed)?;
     let file = fs::open(rt, path)?;
     if file.metadata()?.is_dir() {
         return Err(OutError::Failed);
     }
+    let mut its_name = History::new();
+    its_name.extend(name);
     Ok(DiskSource {
+        name: its_name,
         file,
         buffer: vec![in rt.alloc(); 0; PIECE]?,
         given: History::new(),

@@ -75,7 +75,9 @@ impl MemFile {
     {
         let bytes = ByteList::from_vec(self.bytes.as_slice().to_vec(alloc)?);
         let failing = MomentList::from_vec(self.failing.as_slice().to_vec(alloc)?);
-        Ok(MemSource::new(bytes, self.piece, failing))
+        let mut source = MemSource::new(bytes, self.piece, failing);
+        source.set_name(self.name());
+        Ok(source)
     }
 }
 

@@ -2,9 +2,12 @@
 ghost use Rattle.std.specs.Prelude.{◌≡◌, ◌<◌, ◌≤◌, ◌↔◌, [], Some, length, Contains, IfOk, OnOk};
 ghost use Rattle.std.specs.Prelude.{IsErrOf};
 ghost use Rattle.std.specs.Io.KnownBytes.{WriteAppends};
-ghost use Rattle.tap_outside.specs.Counts.{counted, Rose};
+ghost use Rattle.tap_outside.specs.Counts.{counted};
 ghost use Rattle.tap_outside.specs.Outcomes.{OnFailed, OnMemory};
-ghost use Rattle.tap_outside.specs.Sinks.{after_failed_write, after_write, fresh_sink, seen_sink};
+ghost use Rattle.tap_outside.specs.Seen.{IsRefused};
+ghost use Rattle.tap_outside.specs.Sinks.{after_failed_write, after_refusal, after_write};
+ghost use Rattle.tap_outside.specs.Sinks.{fresh_sink};
+ghost use Rattle.tap_outside.specs.Sinks.{seen_sink};
 
 use crate::{OutError, Sink};
 use frame_view::MomentList;
@@ -12,7 +15,7 @@ use std::alloc::Global;
 use std::marker::Model;
 
 /// A sink that keeps its bytes in memory. Contracts see the bytes written, the numbers of the
-/// writes that fail, and how many writes there were and failed.
+/// writes that fail, and how many writes there were, failed, and ran out of memory.
 #[derive(Debug, Drop)]
 pub struct MemSink {
     /// The bytes written so far.
@@ -24,6 +27,8 @@ pub struct MemSink {
     writes: u64,
     /// How many of them failed; it saturates at `u64::MAX`.
     faults: u64,
+    /// How many writes ran out of memory; it saturates at `u64::MAX`.
+    refused: u64,
 }
 
 impl Model for MemSink {
@@ -36,6 +41,7 @@ impl Model for MemSink {
       failing = sink.failing;
       writes = sink.writes;
       faults = sink.faults;
+      refused = sink.refused;
     } };
 }
 
@@ -44,13 +50,15 @@ impl MemSink {
     /// runs out of memory isn't counted. It takes no memory.
     pub fn new(alloc: Global, failing: MomentList) -> MemSink
         ensures fresh { result ≡ fresh_sink failing }
-        ensures seen { ⟦<MemSink as Sink>⟧.seen result ≡ record { written = Some []; faults = 0 } }
+        ensures seen { ⟦<MemSink as Sink>⟧.seen result
+            ≡ record { written = Some []; faults = 0; refused = 0 } }
     {
         MemSink {
             bytes: Vec::new(alloc),
             failing,
             writes: 0,
             faults: 0,
+            refused: 0,
         }
     }
 
@@ -75,7 +83,7 @@ impl Sink for MemSink {
         ensures whole { IfOk result (λ n. n ≡ length from.now) }
         ensures ok { OnOk result (self.new ≡ after_write self.old from.now) }
         ensures failed { OnFailed result (self.new ≡ after_failed_write self.old) }
-        ensures memory { OnMemory result (self.new ≡ self.old) }
+        ensures memory { OnMemory result (self.new ≡ after_refusal self.old) }
 
         // What each sink promises.
         ensures bound { IfOk result (λ n. (0 < n) × (n ≤ length from.now)) }
@@ -83,7 +91,10 @@ impl Sink for MemSink {
             result from.now }
         ensures later { self.old.faults ≤ self.new.faults }
         ensures faultless { OnOk result (self.new.faults ≡ self.old.faults) }
-        ensures cause { OnFailed result (Rose self.old.faults self.new.faults) }
+        ensures cause { OnFailed result (self.new.faults ≡ counted self.old.faults) }
+        ensures taken { OnOk result (self.new.refused ≡ self.old.refused) }
+        ensures unrefused { OnFailed result (self.new.refused ≡ self.old.refused) }
+        ensures refused { OnMemory result (IsRefused (seen_sink self.old) (seen_sink self.new)) }
     {
         let number = self.writes.saturating_add(1);
         if self.failing.as_slice().contains(&number) {
@@ -91,7 +102,10 @@ impl Sink for MemSink {
             self.faults = self.faults.saturating_add(1);
             return Err(OutError::Failed);
         }
-        self.bytes.extend_from_slice(from)?;
+        if self.bytes.extend_from_slice(from).is_err() {
+            self.refused = self.refused.saturating_add(1);
+            return Err(OutError::Memory);
+        }
         self.writes = number;
         Ok(from.len())
     }

@@ -8,14 +8,17 @@ ghost use Rattle.tap_outside.specs.Seen.{unread_source};
 ghost use Rattle.tap_outside.specs.Sources.{after_failed_read, after_read, fresh_source};
 ghost use Rattle.tap_outside.specs.Sources.{read_length, seen_source};
 
-use crate::{Failed, Source};
+use crate::{Failed, History, Source};
 use frame_view::{ByteList, MomentList};
 use std::marker::Model;
 
-/// A source over bytes in memory. Contracts see the bytes that are left, the most that one read
-/// gives, the numbers of the reads that fail, and how many reads there were and failed.
+/// A source over bytes in memory. Contracts see the name of its file, if it is that of one, the
+/// bytes that are left, the most that one read gives, the numbers of the reads that fail, and how
+/// many reads there were and failed.
 #[derive(Debug, Drop)]
 pub struct MemSource {
+    /// The name of its file. It takes no memory: only contracts read it.
+    name: History<u8>,
     /// All bytes of the source, those already read included.
     bytes: ByteList,
     /// How many of them were read, at most all.
@@ -38,6 +41,7 @@ impl Model for MemSource {
     ghost Value = { MemSourceState };
 
     ghost view = { λ source. record {
+      name = source.name.items;
       left = drop source.at source.bytes;
       given = take source.at source.bytes;
       piece = source.piece;
@@ -58,6 +62,7 @@ impl MemSource {
         ensures seen { ⟦<MemSource as Source>⟧.seen result ≡ unread_source bytes }
     {
         MemSource {
+            name: History::new(),
             bytes,
             at: 0,
             piece,
@@ -65,6 +70,14 @@ impl MemSource {
             reads: 0,
             faults: 0,
         }
+    }
+
+    /// Makes it the source of the file of a name.
+    pub(crate) fn set_name(&mut self, name: &[u8])
+        ensures { self.new ≡ record self.old { name = name.now } }
+    {
+        self.name = History::new();
+        self.name.extend(name);
     }
 
     /// The number of reads that failed so far; it saturates at `u64::MAX`.
@@ -94,6 +107,7 @@ impl Source for MemSource {
         ensures kept { OnErr result (self.new.given ≡ self.old.given) }
         ensures rest { IfOk result (λ n. drop n into.new ≡ drop n into.old) }
         ensures unchanged { OnErr result (into.new ≡ into.old) }
+        ensures named { self.new.name ≡ self.old.name }
         ensures later { self.old.faults ≤ self.new.faults }
         ensures faultless { OnOk result (self.new.faults ≡ self.old.faults) }
         ensures cause { OnErr result (Rose self.old.faults self.new.faults) }

@@ -1,10 +1,11 @@
 //! A store that keeps its files in memory, and fails when it is told to.
-ghost use Rattle.std.specs.Prelude.{◌≡◌, ◌<◌, ◌≤◌, ◌↔◌, ◌++◌, ◌∷◌, [], refl, None, Some, Contains};
+ghost use Rattle.std.specs.Prelude.{◌≡◌, ◌<◌, ◌≤◌, ◌↔◌, [], refl, None, Some, Contains};
 ghost use Rattle.std.specs.Prelude.{option_copied, option_map, IfOk, OnOk, OnErr, IsErrOf};
 ghost use Rattle.tap_outside.specs.Counts.{counted, Rose};
 ghost use Rattle.tap_outside.specs.Contents.{GivesFile, HoldsFile};
 ghost use Rattle.tap_outside.specs.Outcomes.{OnFailed, OnMemory};
-ghost use Rattle.tap_outside.specs.Seen.{OnlyReads, OnlySaves, meant_store};
+ghost use Rattle.tap_outside.specs.Seen.{OnlyReads, OnlySaves, and_closed, and_opened, entry_of};
+ghost use Rattle.tap_outside.specs.Seen.{meant_store, missed_entry, no_sources};
 ghost use Rattle.tap_outside.specs.Sources.{seen_source};
 ghost use Rattle.tap_outside.specs.Stores.{FetchFails, PutsFile, after_close, after_failed_fetch};
 ghost use Rattle.tap_outside.specs.Stores.{after_failed_save, after_faulty_close, after_fetch};
@@ -12,7 +13,8 @@ ghost use Rattle.tap_outside.specs.Stores.{after_save, contents_of, file_of, fil
 ghost use Rattle.tap_outside.specs.Stores.{fresh_store, seen_store, source_of};
 
 use crate::memory_files::{MemFile, file_named, put_file};
-use crate::{History, MemSource, OutError, Store};
+use crate::source_log::SourceLog;
+use crate::{MemSource, OutError, Store};
 use frame_view::{Memory, MomentList};
 use std::alloc::Global;
 use std::marker::Model;
@@ -21,8 +23,8 @@ use std::marker::Model;
 pub(crate) const SAVED_PIECE: usize = 65_536;
 
 /// A store that keeps its files in memory. Contracts see its files, the numbers of the fetches and
-/// of the saves that fail, how many of each there were and failed, and what the sources gave that
-/// were closed.
+/// of the saves that fail, how many of each there were and failed, and the sources that were opened
+/// and closed.
 #[derive(Debug, Drop)]
 pub struct MemStore {
     /// Allocates the files and the sources.
@@ -41,15 +43,13 @@ pub struct MemStore {
     saves: u64,
     /// How many fetches failed, and how many sources had a fault when they were closed.
     read_faults: u64,
-    /// The sources that were closed, and `None` for each fetch that failed.
-    closed: History<Option<MemSource>>,
+    /// The sources that were opened and closed.
+    sources: SourceLog<MemSource>,
     /// How many saves failed.
     save_faults: u64,
 }
 
 impl Model for MemStore {
-    ghost use Rattle.std.specs.Prelude.{map};
-    ghost use Rattle.tap_outside.specs.Records.{given_from_memory};
     ghost use Rattle.tap_outside.specs.Stores.{MemStoreState};
 
     ghost Value = { MemStoreState };
@@ -61,7 +61,7 @@ impl Model for MemStore {
       fetches = store.fetches;
       saves = store.saves;
       read_faults = store.read_faults;
-      closed = map given_from_memory store.closed.items;
+      sources = store.sources;
       save_faults = store.save_faults;
     } };
 }
@@ -72,7 +72,7 @@ impl MemStore {
     pub fn new(alloc: Global, failing_fetches: MomentList, failing_saves: MomentList) -> MemStore
         ensures fresh { result ≡ fresh_store failing_fetches failing_saves }
         ensures seen { ⟦<MemStore as Store>⟧.seen result
-            ≡ meant_store (Some (λ name. None)) [] 0 0 }
+            ≡ meant_store (Some (λ name. None)) no_sources 0 0 }
     {
         MemStore {
             alloc,
@@ -82,7 +82,7 @@ impl MemStore {
             fetches: 0,
             saves: 0,
             read_faults: 0,
-            closed: History::new(),
+            sources: SourceLog::new(),
             save_faults: 0,
         }
     }
@@ -131,8 +131,8 @@ impl Store for MemStore {
         ensures fails { IsErrOf result OutError.Failed ↔ FetchFails self.old name.now }
         ensures given { IfOk result (λ input.
             option_map source_of (file_of self.old.files name.now) ≡ Some input) }
-        ensures ok { OnOk result (self.new ≡ after_fetch self.old) }
-        ensures failed { OnFailed result (self.new ≡ after_failed_fetch self.old) }
+        ensures ok { OnOk result (self.new ≡ after_fetch self.old name.now) }
+        ensures failed { OnFailed result (self.new ≡ after_failed_fetch self.old name.now) }
         ensures memory { OnMemory result (self.new ≡ self.old) }
 
         // What each store promises.
@@ -140,9 +140,11 @@ impl Store for MemStore {
             GivesFile (seen_store self.old).held name.now (seen_source input).left) }
         ensures fresh { IfOk result (λ input. input.faults ≡ 0) }
         ensures unread { IfOk result (λ input. input.given ≡ []) }
+        ensures named { IfOk result (λ input. input.name ≡ name.now) }
         ensures only { OnlyReads (seen_store self.old) (seen_store self.new) }
-        ensures unclosed { OnOk result (self.new.closed ≡ self.old.closed) }
-        ensures missed { OnFailed result (self.new.closed ≡ self.old.closed ++ [] ∷ []) }
+        ensures opened { OnOk result (self.new.sources ≡ and_opened self.old.sources name.now) }
+        ensures missed { OnFailed result
+            (self.new.sources ≡ and_closed self.old.sources (missed_entry name.now)) }
         ensures faultless { OnOk result (self.new.read_faults ≡ self.old.read_faults) }
         ensures cause { OnFailed result (Rose self.old.read_faults self.new.read_faults) }
     {
@@ -152,31 +154,35 @@ impl Store for MemStore {
             Some(file) if !is_to_fail => {
                 let input = file.open(self.alloc)?;
                 self.fetches = number;
+                self.sources.opened(name);
                 Ok(input)
             }
             _ => {
                 self.fetches = number;
                 self.read_faults = self.read_faults.saturating_add(1);
-                self.closed.push(&None);
+                self.sources.missed(name);
                 Err(OutError::Failed)
             }
         }
     }
 
     fn close(&mut self, input: MemSource)
-        ensures faulty { 0 < input.faults → self.new ≡ after_faulty_close self.old input.given }
-        ensures whole { input.faults ≡ 0 → self.new ≡ after_close self.old input.given }
+        ensures faulty { 0 < input.faults
+            → self.new ≡ after_faulty_close self.old (entry_of (seen_source input)) }
+        ensures whole { input.faults ≡ 0
+            → self.new ≡ after_close self.old (entry_of (seen_source input)) }
 
         // What each store promises.
         ensures only { OnlyReads (seen_store self.old) (seen_store self.new) }
-        ensures closed { self.new.closed ≡ self.old.closed ++ input.given ∷ [] }
+        ensures closed { self.new.sources
+            ≡ and_closed self.old.sources (entry_of (seen_source input)) }
         ensures faultless { input.faults ≡ 0 → self.new.read_faults ≡ self.old.read_faults }
         ensures rose { 0 < input.faults → Rose self.old.read_faults self.new.read_faults }
     {
         if input.faults() > 0 {
             self.read_faults = self.read_faults.saturating_add(1);
         }
-        self.closed.push(&Some(input));
+        self.sources.closed(input);
     }
 
     fn save(&mut self, name: &[u8], bytes: &[u8]) -> Result<(), OutError>

@@ -7,9 +7,9 @@ ghost use Rattle.tap_outside.specs.Seen.{SourceSeen};
 
 use crate::Failed;
 
-/// A stream of bytes that is read from its start. Contracts see the bytes that it has left, if it
-/// reports them, the bytes that it gave so far, and the number of its faults, which never falls and
-/// saturates at `u64::MAX`.
+/// A stream of bytes that is read from its start. Contracts see the name under which a store opened
+/// it, the bytes that it has left, if it reports them, those that it gave so far, and the number of
+/// its faults, which never falls and saturates at `u64::MAX`.
 pub trait Source: Drop {
     ghost seen: { Self → SourceSeen };
 
@@ -25,6 +25,7 @@ pub trait Source: Drop {
         ensures kept { OnErr result ((seen self.new).given ≡ (seen self.old).given) }
         ensures rest { IfOk result (λ n. drop n into.new ≡ drop n into.old) }
         ensures unchanged { OnErr result (into.new ≡ into.old) }
+        ensures named { (seen self.new).name ≡ (seen self.old).name }
 
         ensures later { (seen self.old).faults ≤ (seen self.new).faults }
         ensures faultless { OnOk result ((seen self.new).faults ≡ (seen self.old).faults) }

@@ -1,23 +1,26 @@
 //! A store in memory that has no fault.
-ghost use Rattle.std.specs.Prelude.{◌≡◌, ◌<◌, ◌≤◌, ◌++◌, [], refl, map, None, Some, length, drop};
+ghost use Rattle.std.specs.Prelude.{◌≡◌, ◌<◌, ◌≤◌, ◌++◌, refl, None, Some, length, drop};
 ghost use Rattle.std.specs.Prelude.{take, IfOk, OnOk, OnErr, IsOk};
 ghost use Rattle.std.specs.Io.{ReadsAtMost};
 ghost use Rattle.std.specs.Io.KnownBytes.{ReadConsumes};
 ghost use Rattle.tap_outside.specs.Contents.{HoldsFile};
-ghost use Rattle.tap_outside.specs.Seen.{OnlySaves, meant_store, unread_source};
+ghost use Rattle.tap_outside.specs.Seen.{OnlySaves, meant_store, no_sources, unread_source};
 ghost use Rattle.tap_outside.specs.Sources.{seen_sure_source, unread_sure_source};
 ghost use Rattle.tap_outside.specs.Stores.{seen_sure_store};
 
 use crate::memory_store::SAVED_PIECE;
+use crate::source_log::SourceLog;
 use crate::{Failed, History, MemStore, OutError, Source, Store};
 use frame_view::{ByteList, Memory, MomentList};
 use std::alloc::Global;
 use std::marker::Model;
 
-/// A source over bytes in memory that never fails. Contracts see the bytes that are left, and those
-/// that its reads gave.
+/// A source over bytes in memory that never fails. Contracts see the name of its file, if it is
+/// that of one, the bytes that are left, and those that its reads gave.
 #[derive(Debug, Drop)]
 pub struct SureSource {
+    /// The name of its file. It takes no memory: only contracts read it.
+    name: History<u8>,
     /// All bytes of the source, those already read included.
     bytes: ByteList,
     /// How many of them were read, at most all.
@@ -31,6 +34,7 @@ impl Model for SureSource {
     ghost Value = { SureSourceState };
 
     ghost view = { λ source. record {
+      name = source.name.items;
       left = drop source.at source.bytes;
       given = take source.at source.bytes;
     } };
@@ -44,7 +48,11 @@ impl SureSource {
         ensures value { result ≡ unread_sure_source bytes }
         ensures seen { ⟦<SureSource as Source>⟧.seen result ≡ unread_source bytes }
     {
-        SureSource { bytes, at: 0 }
+        SureSource {
+            name: History::new(),
+            bytes,
+            at: 0,
+        }
     }
 }
 
@@ -58,6 +66,7 @@ impl Source for SureSource {
         ensures bytes { ReadConsumes (Some self.old.left) (Some self.new.left) result into.new }
         ensures grows { IfOk result (λ n. self.new.given ≡ self.old.given ++ take n into.new) }
         ensures rest { IfOk result (λ n. drop n into.new ≡ drop n into.old) }
+        ensures named { self.new.name ≡ self.old.name }
     {
         let (_, left) = self.bytes.as_slice().split_at(self.at);
         let given = into.len().min(left.len());
@@ -76,32 +85,32 @@ pub struct SureStore {
     alloc: Global,
     /// What keeps the files. No list makes it fail, and its counts are not looked at.
     files: MemStore,
-    /// The sources that were closed.
-    closed: History<SureSource>,
+    /// The sources that were opened and closed.
+    sources: SourceLog<SureSource>,
 }
 
 impl Model for SureStore {
-    ghost use Rattle.std.specs.Prelude.{map};
     ghost use Rattle.tap_outside.specs.Stores.{SureStoreState};
 
     ghost Value = { SureStoreState };
 
     ghost view = { λ store. record {
       files = store.files.files;
-      closed = map (λ source. source.given) store.closed.items;
+      sources = store.sources;
     } };
 }
 
 impl SureStore {
     /// An empty store. It takes no memory.
     pub fn new(alloc: Global) -> SureStore
-        ensures { ⟦<SureStore as Store>⟧.seen result ≡ meant_store (Some (λ name. None)) [] 0 0 }
+        ensures { ⟦<SureStore as Store>⟧.seen result
+            ≡ meant_store (Some (λ name. None)) no_sources 0 0 }
     {
         let files = MemStore::new(alloc, MomentList::new(alloc), MomentList::new(alloc));
         SureStore {
             alloc,
             files,
-            closed: History::new(),
+            sources: SourceLog::new(),
         }
     }
 
@@ -128,11 +137,14 @@ impl Store for SureStore {
             Some(held) => held.to_vec(self.alloc)?,
             None => Vec::new(self.alloc),
         };
-        Ok(SureSource::new(ByteList::from_vec(bytes)))
+        let mut source = SureSource::new(ByteList::from_vec(bytes));
+        source.name.extend(name);
+        self.sources.opened(name);
+        Ok(source)
     }
 
     fn close(&mut self, input: SureSource) {
-        self.closed.push(&input);
+        self.sources.closed(input);
     }
 
     fn save(&mut self, name: &[u8], bytes: &[u8]) -> Result<(), OutError> {

@@ -19,14 +19,18 @@ impl<W: Write> WrittenFile<W> {
     /// A file to which nothing was written yet.
     pub(crate) fn new(to: W) -> WrittenFile<W>
         ensures { ⟦<WrittenFile<W> as Sink>⟧.seen result
-            ≡ record { written = W.contents to; faults = 0 } }
+            ≡ record { written = W.contents to; faults = 0; refused = 0 } }
     {
         WrittenFile { to, faults: 0 }
     }
 }
 
 impl<W: Write> Sink for WrittenFile<W> {
-    ghost seen = { λ file. record { written = W.contents file.to; faults = file.faults } };
+    ghost seen = { λ file. record {
+      written = W.contents file.to;
+      faults = file.faults;
+      refused = 0;
+    } };
 
     /// Every error is a fault, out of memory too: the file may hold anything.
     fn write(&mut self, from: &[u8]) -> Result<usize, OutError> {

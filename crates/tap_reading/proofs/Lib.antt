@@ -1,1 +1,2 @@
+mod ReadOnes
 mod ItemFaults

@@ -1,9 +1,11 @@
 //! Texts, read to their end or past their greatest size.
-ghost use Rattle.std.specs.Prelude.{◌≡◌, ◌<◌, ◌≤◌, ◌++◌, ◌∷◌, [], length, IfOk, IsErrOf, IsTrue};
+ghost use Rattle.std.specs.Prelude.{◌≡◌, ◌<◌, ◌≤◌, ◌∷◌, [], length, IfOk, IsErrOf, IsTrue};
 ghost use Rattle.std.specs.Prelude.{OnOk, vec_len};
 ghost use Rattle.std.specs.Io.KnownBytes.{IsAtEnd};
-ghost use Rattle.tap_outside.specs.Seen.{NoReadFailed, OnlyReads};
-ghost use Rattle.tap_reading.specs.Fronts.{CantRead, GaveFew, GaveText, IsTextOf};
+ghost use Rattle.tap_outside.specs.Seen.{OnlyReads};
+ghost use Rattle.tap_reading.specs.Fronts.{CantRead, GaveFew, GaveText, IsTextOf, RanOut};
+ghost use Rattle.tap_reading.specs.Fronts.{ReadTexts};
+ghost use Rattle.tap_reading.specs.Fronts.{text_entry};
 
 use frame_view::ByteList;
 use std::alloc::{AllocError, Global};
@@ -33,20 +35,20 @@ impl From<AllocError> for Unread {
 }
 
 /// Reads the text of a name to its end, or until it has more than 1,048,576 bytes; then it has
-/// 1,048,577, and no more is read. The store records the text, as what its source gave. Where a
-/// read fails the answer is `Failed`; else an exact store counts no fault.
+/// 1,048,577, and no more is read. One source is opened for it, and closed: the store records the
+/// text under the name, as what this source gave. Where a read fails the answer is `Failed`; else
+/// an exact store counts no fault. Also where memory runs out no source is left open.
 pub fn read_text<S: Store>(alloc: Global, store: &mut S, name: &[u8]) -> Result<ByteList, Unread>
     requires { IsTrue ((S.seen store.old).to_read name.now) }
     ensures text { IfOk result (λ text. IsTextOf (S.seen store.old).held name.now text) }
 
     ensures store { OnlyReads (S.seen store.old) (S.seen store.new) }
-    ensures closed { IfOk result
-        (λ text. (S.seen store.new).closed ≡ (S.seen store.old).closed ++ text ∷ []) }
-    ensures faultless { OnOk result (NoReadFailed (S.seen store.old) (S.seen store.new)) }
+    ensures texts { IfOk result (λ text.
+        ReadTexts (S.seen store.old) (S.seen store.new) (text_entry name.now text ∷ [])) }
     ensures failed { IsErrOf result Unread.Failed
         → CantRead (S.seen store.old) (S.seen store.new) name.now }
     ensures memory { IsErrOf result Unread.Memory
-        → NoReadFailed (S.seen store.old) (S.seen store.new) }
+        → RanOut (S.seen store.old) (S.seen store.new) }
 {
     let mut input = match store.fetch(name) {
         Ok(input) => input,
@@ -72,6 +74,7 @@ fn read_source<I: Source>(alloc: Global, input: &mut I) -> Result<ByteList, Unre
     ensures early { IsErrOf result Unread.Failed
         → GaveFew (I.seen input.old) (I.seen input.new) }
     ensures memory { IsErrOf result Unread.Memory → (I.seen input.new).faults ≡ 0 }
+    ensures named { (I.seen input.new).name ≡ (I.seen input.old).name }
 {
     let mut text = Vec::new(alloc);
     let mut buffer = zeros(alloc, PIECE)?;

@@ -8,4 +8,5 @@ returns-in-Ok g c = λ command old searched.
 pub returns-in-Err : goal.returns-in-Err
 returns-in-Err g c = λ command old searched.
     gave_up command _ old _ _ _ _ c.give_up.ensures.status c.give_up.ensures.report
-    (c.in-Err.ensures.cut command old searched) c.give_up.ensures.line
+    (c.in-Err.ensures.cut command old searched) c.give_up.ensures.line c.give_up.ensures.kept
+    c.give_up.ensures.one

@@ -1,6 +1,14 @@
-use Rattle.tap_engine.proofs.Printed.{front_of}
+use Rattle.tap_engine.proofs.Printed.{last_fault, last_line}
 use Rattle.tap_engine.proofs.calls.give_up.Goals as goal
 
 pub returns-clause-line : goal.returns-clause-line
 returns-clause-line g c =
-    front_of _ _ _ c.write_whole.result c.write_whole.ensures.ok c.write_whole.ensures.err
+    last_line (g.O.Sink.seen c.args.out.now) (g.O.Sink.seen c.write_whole.new.sink)
+    c.write_whole.result c.write_whole.ensures.ok c.write_whole.ensures.err
+    c.write_whole.ensures.cause c.write_whole.ensures.refused
+
+pub returns-clause-one : goal.returns-clause-one
+returns-clause-one g c =
+    last_fault (g.O.Sink.seen c.args.out.now) (g.O.Sink.seen c.write_whole.new.sink)
+    c.write_whole.result c.write_whole.ensures.faultless c.write_whole.ensures.cause
+    c.write_whole.ensures.memory

@@ -17,10 +17,11 @@ run_timed-requires-clause-ticks g c κs within =
     c.args.asked.schedule.now in
     let setup : Setup = c.in_ok-job.job.setup in
     subst (λ (meant : List ℕ → Bool). IfSome setup.ticks (λ name. IsTrue (meant name)))
-    (sym (to_read_same _ _ c.in_ok-job.ensures.texts.unfailed.only))
+    (sym (to_read_same _ _ c.in_ok-job.ensures.loaded.1.read_is.unfailed.only))
     (ticks_meant store.to_read named setup (threaded_ticks named setup c.requires.threaded)
-    (names_meant store.held store.to_read named setup (g.met.S.Store.untold_reads c.args.store.now)
-    c.requires.reads c.in_ok-job.ensures.job.setup))
+    (names_meant store.held store.to_read named c.in_ok-job.ensures.loaded.0.setup setup
+    (g.met.S.Store.untold_reads c.args.store.now) c.requires.reads
+    c.in_ok-job.ensures.loaded.1.job_is.setup))
 
 pub run_timed-requires-clause-captures : goal.run_timed-requires-clause-captures
 run_timed-requires-clause-captures g c κs within =
@@ -29,10 +30,11 @@ run_timed-requires-clause-captures g c κs within =
     c.args.asked.schedule.now in
     let setup : Setup = c.in_ok-job.job.setup in
     subst (λ (meant : List ℕ → Bool). All (λ cpu. IsTrue (meant cpu.file)) setup.cpus)
-    (sym (to_read_same _ _ c.in_ok-job.ensures.texts.unfailed.only))
+    (sym (to_read_same _ _ c.in_ok-job.ensures.loaded.1.read_is.unfailed.only))
     (threaded_meant store.to_read named setup c.requires.threaded
-    (names_meant store.held store.to_read named setup (g.met.S.Store.untold_reads c.args.store.now)
-    c.requires.reads c.in_ok-job.ensures.job.setup))
+    (names_meant store.held store.to_read named c.in_ok-job.ensures.loaded.0.setup setup
+    (g.met.S.Store.untold_reads c.args.store.now) c.requires.reads
+    c.in_ok-job.ensures.loaded.1.job_is.setup))
 
 pub returns-in_err-report-clause-stop : goal.returns-in_err-report-clause-stop
 returns-in_err-report-clause-stop g c =
@@ -41,8 +43,7 @@ returns-in_err-report-clause-stop g c =
     let p = err_from_is_err_and c.from_residual-in_err-report.result
     c.from_residual-in_err-report.ensures.1 in
     rw (p.1, p.2) (c.in_err-report.ensures.stop (g.S.Store.seen c.args.store.now) named
-    c.requires.threaded
-    (record { job_is = c.in_ok-job.ensures.job; texts = c.in_ok-job.ensures.texts }))
+    c.in_ok-job.ensures.loaded.0 c.requires.threaded c.in_ok-job.ensures.loaded.1)
 
 pub returns-clause-found : goal.returns-clause-found
 returns-clause-found g c =
@@ -52,9 +53,9 @@ returns-clause-found g c =
     let run = c.in_ok-report.field-0 in
     let sent = subst (λ (sent : Bool). IsSentBy sent c.in_ok-job.job.setup run.report run.forwards)
     c.sends-sends.ensures c.in_ok-report.ensures.sent in (
-      c.in_ok-report.ensures.reported old named c.requires.threaded
-          (record { job_is = c.in_ok-job.ensures.job; texts = c.in_ok-job.ensures.texts }),
-      counts_later (faults_in run.report.cpus) old _ _ c.in_ok-job.ensures.texts.unfailed
+      c.in_ok-report.ensures.reported old named c.in_ok-job.ensures.loaded.0 c.requires.threaded
+          c.in_ok-job.ensures.loaded.1,
+      counts_later (faults_in run.report.cpus) old _ _ c.in_ok-job.ensures.loaded.1.read_is.unfailed
           c.in_ok-report.ensures.faults,
       sent,
       threaded_rings named.command c.requires.threaded,

@@ -21,7 +21,7 @@ replay_over-requires-clause-sources g c =
     c.in_ok-sources.ensures.fetched
 
 pub returns-clause-reported : goal.returns-clause-reported
-returns-clause-reported g c = λ start named is read lines.
+returns-clause-reported g c = λ start named texts is read lines.
     let held = (g.S.Store.seen c.args.store.now).held in
     let job = c.args.job.now in
     let report = c.in_ok-report.field-0.report in
@@ -29,7 +29,7 @@ returns-clause-reported g c = λ start named is read lines.
     let new = map (option_map g.S.Input.Source.seen) c.in_ok-report.field-0.sources.items in
     replay_reported start (g.S.Store.seen c.args.store.now)
     (g.S.Store.seen c.fetch_captures.new.store) (g.S.Store.seen c.close_captures.new.store) named
-    job c.args.schedule.now old new report
+    texts job c.args.schedule.now old new report
     (replays (rings_of named.command) job c.args.schedule.now old new report
     c.requires.setup (as_many held job.setup.cpus old c.in_ok-sources.ensures.fetched)
     (subst (λ rings. IsReplayedBy rings job c.args.schedule.now old new report)

@@ -1,7 +1,7 @@
-use Rattle.std.proofs.Common.{◌≡◌, ◌++◌, ap, map, rules}
+use Rattle.std.proofs.Common.{◌≡◌, ap, map, rules}
 use Rattle.std.specs.Prelude.{option_map}
 use Rattle.tap_engine.specs.Given.{given_entries}
-use Rattle.tap_engine.specs.inside.Sources.{givens}
+use Rattle.tap_engine.specs.inside.Sources.{entries_of, with_closed}
 use Rattle.tap_engine.proofs.Counted.{closes_none, closes_one}
 use Rattle.tap_engine.proofs.Fetched.{reads_then}
 use Rattle.tap_engine.proofs.Given.{closes_given}
@@ -13,8 +13,8 @@ loop-source-init g c =
     search rules in
     let counts = closes_none (option_map g.S.Input.Source.seen) _ _ _ same in (
       counts.0,
-      ap (λ sources. (g.S.Store.seen c.args.store.now).closed
-          ++ given_entries (givens (map (option_map g.S.Input.Source.seen) sources))) same,
+      ap (λ sources. with_closed (g.S.Store.seen c.args.store.now).sources
+          (given_entries (entries_of (map (option_map g.S.Input.Source.seen) sources)))) same,
       counts.1,
       counts.2,
       counts.3,

@@ -15,10 +15,10 @@ run_sources-requires-clause-sources g c κs within =
     c.in_ok-sources.ensures.fetched
 
 pub returns-clause-reported : goal.returns-clause-reported
-returns-clause-reported g c = λ start named is read ticks.
+returns-clause-reported g c = λ start named texts is read ticks.
     threaded_reported start (g.S.Store.seen c.args.store.now)
     (g.S.Store.seen c.fetch_captures.new.store) (g.S.Store.seen c.close_captures.new.store) named
-    c.args.job.now
+    texts c.args.job.now
     c.args.moments.now _ _ c.in_ok-ran.ran.report c.in_ok-ran.ensures.ran
     (c.in_ok-sources.ensures.fetched, c.in_ok-sources.ensures.given, c.close_captures.ensures.given)
     is read ticks

@@ -9,6 +9,7 @@ invariant-loop-at g l =
     × Appends (g.S.Sink.seen l.initial.sink).written (g.S.Sink.seen l.sink).written
     (take l.at l.bytes)
     × ((g.S.Sink.seen l.sink).faults ≡ (g.S.Sink.seen l.initial.sink).faults)
+    × ((g.S.Sink.seen l.sink).refused ≡ (g.S.Sink.seen l.initial.sink).refused)
 
 abbrev pub decreases-loop-at : goal.decreases-loop-at
 decreases-loop-at g l = length l.bytes - l.at
