@@ -1,0 +1,106 @@
+"""What all checks have in common: the programs, a folder of a test's own, and what a test needs of the machine.
+
+A test that needs a command, a module or a right says so by `@pytest.mark.needs("tcpdump")`, and is skipped where that isn't
+there. With `CI` set nothing else skips: a test that leaves itself out though its needs are there fails, with its reason.
+"""
+from __future__ import annotations
+
+import os
+import shutil
+import subprocess
+import tempfile
+from collections.abc import Iterator
+from pathlib import Path
+
+import pytest
+
+import rights
+from places import PROGRAMS, UNBUILT
+
+
+def built(program: Path) -> Path:
+    """A program that is there."""
+    if program == UNBUILT:
+        pytest.fail("no program is built: `sh demo/build.sh` builds one, and RINGTAP names another")
+    return program
+
+
+def pytest_configure(config: pytest.Config) -> None:
+    config.addinivalue_line("markers", "needs(what, ..): commands, modules and rights without which the test is skipped")
+
+
+def pytest_generate_tests(metafunc: pytest.Metafunc) -> None:
+    """A test of `program` is one for each of them."""
+    if "program" in metafunc.fixturenames:
+        metafunc.parametrize("program", PROGRAMS, ids=[path.name for path in PROGRAMS], indirect=True, scope="session")
+
+
+@pytest.fixture(scope="session")
+def program(request: pytest.FixtureRequest) -> Path:
+    """A program to check, each in turn."""
+    return built(request.param)
+
+
+@pytest.fixture(scope="session")
+def first_program() -> Path:
+    """The first of them, for what doesn't depend on the compiler."""
+    return built(PROGRAMS[0])
+
+
+def new_room() -> Iterator[Path]:
+    room = Path(tempfile.mkdtemp(prefix="ringtap-check-"))
+    room.chmod(0o755)
+    yield room
+    subprocess.run(["chmod", "-R", "u+rwx", room], check=False)
+    shutil.rmtree(room)
+
+
+@pytest.fixture
+def room() -> Iterator[Path]:
+    """A folder of the test's own, into which every user may look; gone at its end with all that is in it."""
+    yield from new_room()
+
+
+@pytest.fixture
+def inside(room: Path, monkeypatch: pytest.MonkeyPatch) -> Path:
+    """That folder, and the test runs in it."""
+    monkeypatch.chdir(room)
+    return room
+
+
+# ---- what is skipped
+
+lacking: set[str] = set()  # one line for each need that isn't there
+
+
+def pytest_runtest_setup(item: pytest.Item) -> None:
+    for mark in item.iter_markers("needs"):
+        for what in mark.args:
+            if why := rights.lack(what):
+                pytest.skip(f"needs {what}: {why}")
+
+
+@pytest.hookimpl(hookwrapper=True)
+def pytest_runtest_makereport(item: pytest.Item, call: pytest.CallInfo) -> Iterator[None]:
+    """With CI set a skip that no missing need explains is a failure."""
+    report = (yield).get_result()
+    if not report.skipped or not os.environ.get("CI") or hasattr(report, "wasxfail"):
+        return
+    why = str(call.excinfo.value) if call.excinfo else "no reason"
+    if not why.startswith("needs "):
+        report.outcome = "failed"
+        report.longrepr = f"{item.nodeid} leaves itself out, though what it needs is there: {why}"
+
+
+def pytest_terminal_summary(terminalreporter: pytest.TerminalReporter) -> None:
+    """One line for each reason for which something was skipped, and one of sums."""
+    counts: dict[str, int] = {}
+    for report in terminalreporter.stats.get("skipped", []):
+        why = report.longrepr[2] if isinstance(report.longrepr, tuple) else str(report.longrepr)
+        why = why.removeprefix("Skipped: ")
+        counts[why] = counts.get(why, 0) + 1
+    for why, count in sorted(counts.items()):
+        terminalreporter.write_line(f"skipped: {count} {'checks' if count > 1 else 'check'}: {why}")
+    found = {kind: len(terminalreporter.stats.get(kind, [])) for kind in ("passed", "failed", "error")}
+    failed = found["failed"] + found["error"]
+    terminalreporter.write_line(f"checks: {found['passed']} passed, {failed} failed, {sum(counts.values())} skipped")

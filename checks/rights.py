@@ -1,0 +1,78 @@
+"""What a machine has of what checks need: commands, modules of python3, and rights."""
+from __future__ import annotations
+
+import functools
+import importlib.util
+import os
+import shutil
+import socket
+import subprocess
+import tempfile
+from collections.abc import Callable, Sequence
+
+
+def works(words: Sequence[str]) -> bool:
+    try:
+        return subprocess.run(words, capture_output=True, timeout=60, check=False).returncode == 0
+    except OSError:
+        return False
+
+
+def raw_socket() -> bool:
+    try:
+        socket.socket(socket.AF_INET, socket.SOCK_RAW, 253).close()
+    except OSError:
+        return False
+    return True
+
+
+def packet_socket() -> bool:
+    try:
+        socket.socket(socket.AF_PACKET, socket.SOCK_RAW, 0).close()
+    except OSError:
+        return False
+    return True
+
+
+def small_mount() -> bool:
+    """Whether a file system in memory can be mounted."""
+    with tempfile.TemporaryDirectory() as folder:
+        if not works(["mount", "-t", "tmpfs", "-o", "size=4k", "none", folder]):
+            return False
+        return works(["umount", folder])
+
+
+def other_user() -> bool:
+    """Whether a run has no more rights than files give it: it isn't root's, or can be another user's."""
+    return os.getuid() != 0 or works(["setpriv", "--reuid=65534", "--clear-groups", "true"])
+
+
+def namespaces() -> bool:
+    return works(["unshare", "--user", "--map-root-user", "--net", "true"]) or works(["unshare", "--net", "true"])
+
+
+RIGHTS: dict[str, Callable[[], bool]] = {
+    "raw sockets": raw_socket,
+    "packet sockets": packet_socket,
+    "mounts": small_mount,
+    "another user": other_user,
+    "network namespaces": namespaces,
+}
+
+
+@functools.cache
+def lack(what: str) -> str | None:
+    """Why a need isn't met; None where it is. A need is a right of the table, a module as `python3:NAME`, or a command."""
+    if what == "a kernel to ask":
+        from kernel.rings import why_not  # which imports what only the kernel's checks use
+
+        return why_not()
+    if what == "a limit of threads":
+        from second.no_threads import is_alone
+
+        return None if is_alone() else "a program can't be forbidden to start threads here"
+    if what in RIGHTS:
+        return None if RIGHTS[what]() else "no such right here"
+    if what.startswith("python3:"):
+        return None if importlib.util.find_spec(what.partition(":")[2]) else "no such module here"
+    return None if shutil.which(what) else "it isn't here (checks/needs.sh)"

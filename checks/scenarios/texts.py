@@ -1,0 +1,383 @@
+"""Reads the scenarios of crates/scenario_runs/data, whose form crates/scenario_runs/FORM.md says, apart from that crate's code.
+
+A `Scenario` gives what stands in its files before the command, and what comes of the command: lines, files, tries and notes.
+"""
+from __future__ import annotations
+
+import re
+from collections.abc import Iterable, Iterator
+from dataclasses import dataclass
+from pathlib import Path
+
+from places import TOP
+from second import capture_bytes
+from second.capture_bytes import record
+
+Lines = list[str]
+
+TEXTS = {"filter": "f.ddd", "sched": "sched", "ticks": "t.txt"}
+LARGEST_CAPTURE = 33_554_432
+WORDS = frozenset(
+    "like base run plain conf with sched filter ticks pcap tail raw bytes cut pieces endless fail half faults poor hold"
+    " status > taken cpu member frames report sent file fields part absent".split()
+)
+# The words of a setup, as the first table of docs/reference.md has them.
+SETUP_WORDS = frozenset(
+    re.findall(r"^\| `(\w+)", (TOP / "docs/reference.md").read_text(encoding="utf-8").partition("| Line | Its value |")[2].partition("\n\n")[0], re.M)
+)
+
+
+def repeated(word: str) -> Lines:
+    """A word that may end with xN, as often as that says."""
+    front, _, times = word.partition("x")
+    return [front] * int(times or 1)
+
+
+def repeated_line(line: str) -> str:
+    """A line whose last word may be xN, as often as that says."""
+    found = re.fullmatch(r"(.*) x(\d+)", line)
+    return (found[1] + "\n") * int(found[2]) if found else line + "\n"
+
+
+def bytes_of(words: Lines) -> bytes:
+    """The bytes of hexadecimal digits, of which a word may be repeated."""
+    return b"".join(bytes.fromhex(digits) for word in words for digits in repeated(word))
+
+
+# The fields of <linux/if_packet.h>: place, size, and `>` where the bytes are in network order.
+ADDRESS = {
+    "sll_family": (0, 2, "<"), "sll_protocol": (2, 2, ">"), "sll_ifindex": (4, 4, "<"), "sll_hatype": (8, 2, "<"),
+    "sll_pkttype": (10, 1, "<"), "sll_halen": (11, 1, "<"), "sll_addr": (12, 8, ">"),
+}
+
+
+def with_address(front: int, fields: dict[str, tuple[int, int]]) -> dict[str, tuple[int, int, str]]:
+    """The fields of a packet's header, and those of the address that follows it."""
+    found = {name: (place, size, "<") for name, (place, size) in fields.items()}
+    return found | {name: (front + place, size, order) for name, (place, size, order) in ADDRESS.items()}
+
+
+FIELDS: dict[str, dict[str, tuple[int, int, str]]] = {
+    "block": {
+        name: (place, 8 if name == "seq_num" else 4, "<") for name, place in {
+            "version": 0, "offset_to_priv": 4, "block_status": 8, "num_pkts": 12, "offset_to_first_pkt": 16, "blk_len": 20, "seq_num": 24,
+            "first_sec": 32, "first_nsec": 36, "last_sec": 40, "last_nsec": 44,
+        }.items()
+    },
+    "packet": with_address(48, {
+        "tp_next_offset": (0, 4), "tp_sec": (4, 4), "tp_nsec": (8, 4), "tp_snaplen": (12, 4), "tp_len": (16, 4), "tp_status": (20, 4),
+        "tp_mac": (24, 2), "tp_net": (26, 2), "tp_rxhash": (28, 4), "tp_vlan_tci": (32, 4), "tp_vlan_tpid": (36, 2),
+    }),
+    "slot": with_address(32, {
+        "tp_status": (0, 4), "tp_len": (4, 4), "tp_snaplen": (8, 4), "tp_mac": (12, 2), "tp_net": (14, 2), "tp_sec": (16, 4),
+        "tp_nsec": (20, 4), "tp_vlan_tci": (24, 2), "tp_vlan_tpid": (26, 2),
+    }),
+}
+
+
+def field_bytes(struct: str, field: str, number: str) -> tuple[int, bytes]:
+    """Where a field stands in its struct, and the bytes of its value, which is decimal."""
+    if struct not in FIELDS:
+        raise LookupError(f'"{struct}" is no struct{meant(struct, FIELDS)}; there are {", ".join(FIELDS)}')
+    if field not in FIELDS[struct]:
+        raise LookupError(f'"{field}" is no field of {struct}{meant(field, FIELDS[struct])}')
+    place, size, order = FIELDS[struct][field]
+    return place, int(number).to_bytes(size, "big" if order == ">" else "little")
+
+
+@dataclass(frozen=True)
+class Cpu:
+    """What is said of a CPU: its tries, and how many bytes its capture gave."""
+
+    tries: str
+    given: int
+
+
+@dataclass(frozen=True)
+class Member:
+    """What is said of a member: its notes, the bytes of its file, and the status and length of each block."""
+
+    notes: str
+    output: bytes
+    blocks: list[tuple[int, int]]
+
+
+class Scenario:
+    """The lines of a scenario, and of those that it is like."""
+
+    def __init__(self, name: Line, layers: list[list[Line]]) -> None:
+        self.name, self.layers = name, layers
+
+    def line_of(self, word: str, text: str = "") -> Line:
+        """The first line of a word that has this text; the name where there is none."""
+        lines = (line for layer in self.layers for line in layer if line.split()[0] == word and text in line)
+        return next(lines, self.name)
+
+    def values(self, word: str) -> Lines:
+        """What is said of a word, between bars: by its own lines, or else by those of the one that it is like. A line with the
+        word alone says that there is nothing."""
+        for lines in self.layers:
+            found = [line.strip().partition(" ")[2] for line in lines if line.split()[0] == word]
+            if found:
+                return [part.strip() for value in found for part in value.split(" | ") if part.strip()]
+        return []
+
+    def value(self, word: str, default: str = "") -> str:
+        return (self.values(word) or [default])[0]
+
+    def named(self, word: str) -> dict[str, str]:
+        """What the lines of a word say of each name."""
+        return {value.split()[0]: value.partition(" ")[2].strip() for value in self.values(word)}
+
+    def text(self, *words: str) -> str:
+        """A text of the lines that are said."""
+        return "".join(repeated_line(value) for word in words for value in self.values(word))
+
+    def command(self) -> Lines:
+        return ["" if word == "''" else word for word in self.value("run").split()]
+
+    def first_word(self) -> str:
+        return (self.command() or [""])[0]
+
+    def is_on_threads(self) -> bool:
+        return self.first_word() in ("capture", "forward") and not self.values("plain")
+
+    # What stands in the files before the command.
+
+    def frame(self, index: int, word: str) -> bytes:
+        name, _, length = word.rpartition(":")
+        front = bytes.fromhex(self.named("bytes")[name]) if name else b""
+        return front.ljust(int(length), bytes([index % 256]))
+
+    def frames(self, words: Lines) -> list[bytes]:
+        single = [frame for word in words for frame in repeated(word)]
+        return [self.frame(index, word) for index, word in enumerate(single)]
+
+    def captures(self) -> list[tuple[str, list[bytes]]]:
+        """The name and the frames of each capture that a line `pcap` says."""
+        return [(value.split()[0], self.frames(value.split()[1:])) for value in self.values("pcap")]
+
+    def whole_captures(self) -> Iterator[tuple[str, bytes]]:
+        tails = self.named("tail")
+        for name, frames in self.captures():
+            data = capture_bytes.header() + b"".join(map(record, frames))
+            yield name, data + bytes_of(tails.get(name, "").split())
+        raw: dict[str, bytes] = {}
+        for value in self.values("raw"):
+            name, *words = value.split()
+            raw[name] = raw.get(name, b"") + bytes_of(words)
+        yield from raw.items()
+
+    def capture_files(self) -> list[tuple[str, bytes]]:
+        """The captures as they can be read: cut, and of those without an end more than is ever read."""
+        cuts, endless, files = self.named("cut"), self.named("endless"), []
+        for name, data in self.whole_captures():
+            data = data[: int(cuts.get(name, len(data)))]
+            if name in endless:
+                again = data[int(endless[name]) :]
+                data += again * (LARGEST_CAPTURE // len(again) + 1)
+            files.append((name, data))
+        return files
+
+    def inputs(self) -> dict[str, bytes]:
+        """The files that the command finds."""
+        files = {"conf": self.text("conf", "with")}
+        files |= {name: self.text(word) for word, name in TEXTS.items() if word != "ticks" or self.values(word)}
+        return {name: text.encode() for name, text in files.items()} | dict(self.capture_files())
+
+    # What comes of the command.
+
+    def status(self) -> int:
+        return int(self.value("status", "0").split()[0])
+
+    def lines(self) -> str:
+        return self.text(">")
+
+    def printed_by(self) -> list[Line]:
+        """For each printed line the one that says it."""
+        layer = next((lines for lines in self.layers if any(line.split()[0] == ">" for line in lines)), [])
+        said = [line for line in layer if line.split()[0] == ">"]
+        return [line for line in said for part in line.split(" | ") for _ in repeated_line(part.strip()).splitlines()]
+
+    def printed(self) -> str:
+        """The lines as far as they were taken, and one more where memory was refused."""
+        lines = self.lines()
+        return lines[: int(self.value("taken", str(len(lines))))] + ("out of memory\n" if self.status() == 7 else "")
+
+    def has_report(self) -> bool:
+        """Whether the report is said."""
+        return bool(self.values("cpu")) and self.status() != 7 and self.value("report") != "any"
+
+    def cpus(self) -> list[Cpu]:
+        files, found = [data for _, data in self.capture_files()], []
+        for value in self.values("cpu"):
+            index, rest = value.split(" ", 1)
+            tries, _, given = rest.partition(" given ")
+            found.append(Cpu(tries.strip().replace("-", ""), int(given or len(files[int(index)]))))
+        return found
+
+    def kept_frames(self) -> list[list[bytes]]:
+        """The frames that the words of members and of `sent` count, capture by capture."""
+        frames = [frames for _, frames in self.captures()] or [[]]
+        other = self.values("frames")
+        return [self.frames(other[0].split()), *frames[1:]] if other else frames
+
+    def records(self, words: Lines, sec: int, nsec: int) -> bytes:
+        """The file of these frames, each at this second and nanosecond."""
+        captures = self.kept_frames()
+        records = []
+        for word in words:
+            frames, _, most = word.partition("/")
+            capture, _, indices = frames.rpartition(".")
+            first, _, last = indices.partition("-")
+            for index in range(int(first), int(last or first) + 1):
+                frame = captures[int(capture or 0)][index]
+                records.append(record(frame[: int(most or len(frame))], sec=sec, fraction=nsec, original=len(frame)))
+        return capture_bytes.output(records)
+
+    def members(self) -> list[Member]:
+        found = []
+        for value in self.values("member"):
+            front, _, blocks = value.partition(" blocks ")
+            front, _, kept = front.partition(" kept ")
+            parts = [block.split(":") for word in blocks.split() for block in repeated(word)]
+            output = self.records(kept.split(), 1, 2_000)
+            found.append(Member(front.split()[1], output, [(int(status), int(length)) for status, length in parts]))
+        return found
+
+    def sent(self) -> list[tuple[str, bytes]]:
+        """The files of what was sent."""
+        return [(value.split()[0], self.records(value.split()[1:], 0, 0)) for value in self.values("sent")]
+
+    def places(self) -> Iterator[tuple[str, int, bytes, str]]:
+        """The bytes that are said at places of files, by digits or as fields of a struct, each with what says them."""
+        for value in self.values("file"):
+            name, at, *digits = value.split()
+            yield name, int(at), bytes_of(digits), value
+        for value in self.values("fields"):
+            name, at, struct, *pairs = value.split()
+            for field, number in zip(pairs[::2], pairs[1::2]):
+                place, data = field_bytes(struct, field, number)
+                yield name, int(at) + place, data, f"{name} {at} {struct} {field} {number}"
+
+    def parts(self) -> dict[str, int]:
+        """The files of which only the first bytes are there."""
+        return {name: int(length) for name, length in self.named("part").items()}
+
+    def absent(self) -> Lines:
+        return [name for value in self.values("absent") for name in value.split()]
+
+
+# ---- reading a file
+
+
+class Mistake(ValueError):
+    """What is wrong with a file, after its name and the line."""
+
+    def __init__(self, path: Path, number: int, what: str) -> None:
+        super().__init__(f"{path}:{number}: {what}")
+
+
+class Line(str):
+    """A line of a file, with its number there."""
+
+    number: int
+
+    def __new__(cls, number: int, text: str) -> Line:
+        line = super().__new__(cls, text)
+        line.number = number
+        return line
+
+
+def is_near(word: str, other: str) -> bool:
+    """Whether one letter differs: another one, one more, one less, or two that have changed places."""
+    if sorted(word) == sorted(other):
+        return sum(a != b for a, b in zip(word, other)) == 2
+    front = next((at for at, (a, b) in enumerate(zip(word, other)) if a != b), min(len(word), len(other)))
+    if len(word) == len(other):
+        return word[front + 1 :] == other[front + 1 :]
+    long, short = sorted((word, other), key=len, reverse=True)
+    return long[:front] + long[front + 1 :] == short
+
+
+def meant(word: str, known: Iterable[str]) -> str:
+    """A question that names the word that is meant, where one is near."""
+    near = sorted(other for other in known if len(other) > 2 and is_near(word, other))
+    return f'; "{near[0]}" is meant?' if near else ""
+
+
+def paragraphs(text: str) -> list[list[Line]]:
+    """The lines of each scenario, the first of which is its name. A line that begins with `#` is a comment, wherever it stands."""
+    parts: list[list[Line]] = [[]]
+    for number, line in enumerate(text.split("\n"), 1):
+        if not line:
+            parts.append([])
+        elif not line.lstrip().startswith("#"):
+            parts[-1].append(Line(number, line))
+    return [part for part in parts if part]
+
+
+class Document:
+    """The scenarios of a file."""
+
+    def __init__(self, path: Path, text: str) -> None:
+        self.path, self.lines = path, dict[str, list[Line]]()
+        self.names: list[Line] = []
+        for name, *lines in paragraphs(text):
+            if name in self.lines:
+                first = next(other.number for other in self.names if other == name)
+                raise Mistake(path, name.number, f'the name "{name}" stands at line {first} already')
+            self.names.append(name)
+            self.lines[name] = lines
+        for lines in self.lines.values():
+            self.check_words(lines)
+
+    def check_words(self, lines: list[Line]) -> None:
+        for line in lines:
+            word = line.split()[0]
+            if word not in WORDS:
+                raise Mistake(self.path, line.number, f'"{word}" is no word of a scenario{meant(word, WORDS)}')
+
+    def layers(self, name: str) -> list[list[Line]]:
+        """The lines of a scenario, and those of the ones that it is like: two steps at most."""
+        layers = [self.lines[name]]
+        while like := next((line for line in layers[-1] if line.split()[0] == "like"), None):
+            base = like.strip().partition(" ")[2].strip()
+            if base not in self.lines:
+                raise Mistake(self.path, like.number, f'there is no scenario "{base}"{meant(base, self.names)}')
+            if len(layers) == 3:
+                raise Mistake(self.path, like.number, f'"{name}" is like "{base}" in three steps, and two are allowed')
+            layers.append(self.lines[base])
+        return layers
+
+    def scenarios(self) -> list[Scenario]:
+        """Those that are carried out, in order."""
+        named = {name for name in self.names if not any(line.split() == ["base"] for line in self.lines[name])}
+        found = [Scenario(name, self.layers(name)) for name in self.names if name in named]
+        for scenario in found:
+            self.check_order(scenario)
+            self.check_setup(scenario)
+        return found
+
+    def check_order(self, scenario: Scenario) -> None:
+        for word in ("cpu", "member"):
+            indices = [value.split()[0] for value in scenario.values(word)]
+            if indices != [str(at) for at in range(len(indices))]:
+                line = scenario.line_of(word)
+                raise Mistake(self.path, line.number, f'the lines "{word}" are {", ".join(indices)}, and 0, 1 and so on is the order')
+
+    def check_setup(self, scenario: Scenario) -> None:
+        """The setup of a scenario that isn't refused has known words alone."""
+        if scenario.status() in (1, 2):
+            return
+        for word in ("conf", "with"):
+            for line in scenario.text(word).splitlines():
+                first = (line.split() or ["#"])[0]
+                if not first.startswith("#") and first not in SETUP_WORDS:
+                    place = scenario.line_of(word, first).number
+                    raise Mistake(self.path, place, f'"{first}" is no word of a setup{meant(first, SETUP_WORDS)}')
+
+
+def scenarios(path: Path) -> list[Scenario]:
+    """The scenarios of a file that are carried out, in order."""
+    return Document(path, path.read_text(encoding="ascii")).scenarios()

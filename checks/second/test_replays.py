@@ -1,0 +1,44 @@
+"""Replays of captures of many kinds, over rings of blocks and of slots, frames that are made and captures that are sent, give the
+status, the lines and the files that the second program works out; and that gives what was worked out with pencil and paper."""
+from __future__ import annotations
+
+from collections.abc import Callable, Iterator
+from pathlib import Path
+
+import pytest
+
+from second import made_values, outcomes, replays
+from second.outcomes import found_wrong
+from second.replays import Case
+from second.runs import made_frames
+
+WORKED = [*replays.worked_cases(), *replays.slot_cases(), *replays.sent_cases()]
+PLAIN = [Case("replay", replays.setup_text(size), replays.FEW_STEPS, [data]) for data in replays.small_captures() for size in replays.SIZES]
+SLOTS = [
+    Case("replay2", replays.setup_text(size) + "dump yes\n", replays.FEW_STEPS, [data])
+    for data in replays.small_captures() for size in replays.SLOTS[:4]
+]
+
+
+@pytest.mark.parametrize(("case", "lines", "length"), WORKED)
+def test_second_program_by_hand(case: Case, lines: str, length: int) -> None:
+    """The second program's lines, and the length of its file, are those of the tables."""
+    printed, files = replays.worked_out(case)
+    assert printed == lines
+    assert [len(data) for data in files.values()] == [length]
+
+
+def test_made_frames_by_another_script() -> None:
+    assert [frame.data for frame in made_frames(7, 300)] == list(made_values.made(7, 300))
+
+
+@pytest.mark.parametrize("case", [*(case for case, _, _ in WORKED), *PLAIN, *SLOTS])
+def test_run(case: Case, program: Path, inside: Path) -> None:
+    """A run of a table: each is a case of its own."""
+    assert found_wrong(replays.faults, case, lambda case: replays.run_of(str(program), case)) == []
+
+
+@pytest.mark.parametrize("cases", [replays.large, replays.random_replays, replays.slots, replays.sends, replays.makes])
+def test_runs(cases: Callable[[], Iterator[Case]], program: Path) -> None:
+    """Runs of a kind, drawn from a number."""
+    assert outcomes.wrong_runs(cases.__name__, replays.faults, cases(), lambda case: replays.run_of(str(program), case)) == 0
