@@ -1,8 +1,11 @@
 #!/bin/sh
-# sh install.sh PREFIX: puts the program, the tools, their man pages, bash's completion and the documents below a folder, as /usr/local.
+# sh install.sh PREFIX: puts the program, the tools, their man pages, completion for bash, and the
+# documents with the demo and the examples below a folder, as /usr/local.
 #
-# The program is bin/ringtap, which demo/build.sh builds, or the one that RINGTAP names. The tools need python3, and run from any folder:
-# ringtap-size, ringtap-lost and so on, in PREFIX/bin, are links to the files in PREFIX/lib/ringtap.
+# The program is bin/ringtap, which demo/build.sh builds, or the one that RINGTAP names; bin/ringsize
+# goes along where it is there. The tools need python3, and run from any folder: ringtap-size,
+# ringtap-lost and so on, in PREFIX/bin, are links to the files in PREFIX/lib/ringtap. The documents
+# lie in PREFIX/share/doc/ringtap as in the repository, with all that they link to.
 set -eu
 if [ $# -ne 1 ] || [ -z "$1" ]; then
     echo "usage: sh install.sh PREFIX" >&2
@@ -23,7 +26,7 @@ prefix=$(cd "$1" && pwd)
 library=$prefix/lib/ringtap
 documents=$prefix/share/doc/ringtap
 completions=$prefix/share/bash-completion/completions
-mkdir -p "$prefix/bin" "$library" "$documents/examples" "$prefix/share/man/man1" "$completions"
+mkdir -p "$prefix/bin" "$library" "$documents" "$prefix/share/man/man1" "$completions"
 
 # Puts files into a folder; one that is there is replaced, whoever runs it.
 put() {
@@ -37,17 +40,50 @@ put() {
     done
 }
 
-rm -f "$prefix/bin/ringtap"
-cp "$program" "$prefix/bin/ringtap"
-chmod 755 "$prefix/bin/ringtap"
+put 755 "$prefix/bin" "$program"
+if [ "${program##*/}" != ringtap ]; then
+    mv "$prefix/bin/${program##*/}" "$prefix/bin/ringtap"
+fi
+if [ -x "$here/bin/ringsize" ]; then
+    put 755 "$prefix/bin" "$here/bin/ringsize"
+fi
 put 644 "$library" "$here"/tools/*.py
 rm -f "$library/make_man.py"
-put 644 "$documents" "$here"/docs/*.md "$here/README.md" "$here/CHANGELOG.md"
-put 644 "$documents/examples" "$here"/examples/*
 cp "$here/tools/ringtap.bash" "$completions/ringtap"
 python3 -B "$here/tools/make_man.py" --into "$prefix/share/man/man1"
 python3 -B "$here/tools/make_man.py" --names | while read -r file name; do
     chmod 755 "$library/$file"
     ln -sf "../lib/ringtap/$file" "$prefix/bin/$name"
+    # The options of a tool are those that its help names.
+    options=$(python3 -B "$library/$file" --help | grep -oE -- '(^|[ ,[])--?[a-z][a-z0-9-]*' | tr -d ' ,[' | sort -u | tr '\n' ' ')
+    echo "complete -o default -W '$options' $name" >"$completions/$name"
 done
+
+# The documents, and what they link to, and what that links to.
+python3 -B - "$here" "$documents" <<'PYTHON'
+import re
+import shutil
+import sys
+from pathlib import Path
+
+here, documents = map(Path, sys.argv[1:])
+waiting = [here / name for name in ("README.md", "CONTRIBUTING.md", "CHANGELOG.md")]
+waiting += [path for folder in ("docs", "examples", "demo") for path in (here / folder).rglob("*")]
+seen = set()
+while waiting:
+    path = waiting.pop()
+    if path in seen or not path.is_file() or "__pycache__" in path.parts or path.suffix == ".1":
+        continue
+    seen.add(path)
+    copy = documents / path.relative_to(here)
+    copy.parent.mkdir(parents=True, exist_ok=True)
+    copy.unlink(missing_ok=True)
+    shutil.copyfile(path, copy)
+    if path.suffix == ".md":
+        links = re.findall(r"\]\(([^)#:\s]+)[)#]", path.read_text(encoding="utf-8"))
+        waiting += [(path.parent / link).resolve() for link in links]
+PYTHON
+cat >"$documents/copyright" <<'END'
+ringtap: no licence is given yet; its owner has to choose one. This is to try and not to pass on.
+END
 echo "installed in $prefix: bin/ringtap and $(find "$prefix/bin" -name 'ringtap-*' | wc -l) tools"

@@ -47,8 +47,9 @@ def other_user() -> bool:
     return os.getuid() != 0 or works(["setpriv", "--reuid=65534", "--clear-groups", "true"])
 
 
-def namespaces() -> bool:
-    return works(["unshare", "--user", "--map-root-user", "--net", "true"]) or works(["unshare", "--net", "true"])
+def chroot() -> bool:
+    words = [] if os.getuid() == 0 else ["unshare", "--map-root-user"]
+    return works([*words, "chroot", "/", "true"])
 
 
 RIGHTS: dict[str, Callable[[], bool]] = {
@@ -56,7 +57,7 @@ RIGHTS: dict[str, Callable[[], bool]] = {
     "packet sockets": packet_socket,
     "mounts": small_mount,
     "another user": other_user,
-    "network namespaces": namespaces,
+    "a chroot": chroot,
 }
 
 

@@ -8,8 +8,8 @@ from ringtap_files import Fault, read_bytes
 
 HERE = Path(__file__).resolve().parent
 IS_INSTALLED = HERE.name == "ringtap"  # lib/ringtap, with the documents in share/doc/ringtap
-TOP = HERE.parent.parent if IS_INSTALLED else HERE.parent
-DOCUMENTS = TOP / "share/doc/ringtap" if IS_INSTALLED else TOP / "docs"
+TOP = HERE.parent.parent / "share/doc/ringtap" if IS_INSTALLED else HERE.parent
+DOCUMENTS = TOP / "docs"
 FIRST = (DOCUMENTS / "reference.md", TOP / "README.md")  # where a table is looked for before other documents
 
 Rows = list[dict[str, str]]
