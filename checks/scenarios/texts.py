@@ -317,6 +317,11 @@ def paragraphs(text: str) -> list[list[Line]]:
     return [part for part in parts if part]
 
 
+def base_of(like: Line) -> str:
+    """The name after the word of a line `like`."""
+    return like.strip().partition(" ")[2].strip()
+
+
 class Document:
     """The scenarios of a file."""
 
@@ -340,13 +345,15 @@ class Document:
 
     def layers(self, name: str) -> list[list[Line]]:
         """The lines of a scenario, and those of the ones that it is like: two steps at most."""
-        layers = [self.lines[name]]
+        layers, likes = [self.lines[name]], list[Line]()
         while like := next((line for line in layers[-1] if line.split()[0] == "like"), None):
-            base = like.strip().partition(" ")[2].strip()
+            base = base_of(like)
             if base not in self.lines:
                 raise Mistake(self.path, like.number, f'there is no scenario "{base}"{meant(base, self.names)}')
-            if len(layers) == 3:
-                raise Mistake(self.path, like.number, f'"{name}" is like "{base}" in three steps, and two are allowed')
+            likes.append(like)
+            if len(likes) == 3:
+                told = f'"{name}" is like "{base_of(likes[0])}" in three steps, and two are allowed'
+                raise Mistake(self.path, likes[0].number, told)
             layers.append(self.lines[base])
         return layers
 

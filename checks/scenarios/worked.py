@@ -372,6 +372,15 @@ def checked(scenario: Scenario, program: Path | None) -> list[str]:
         return [f"it can't be worked out: {why.args[0]}"]
 
 
+def is_readable(scenario: Scenario) -> bool:
+    """Whether the values of its files can be read."""
+    try:
+        scenario.inputs()
+    except (LookupError, ValueError):
+        return False
+    return True
+
+
 def compare(path: Path, program: Path | None) -> int:
     """How many of a file's scenarios differ."""
     found = scenarios(path)
@@ -381,7 +390,7 @@ def compare(path: Path, program: Path | None) -> int:
         differing += bool(faults)
         for at, fault in enumerate(faults):
             print(f"{path}:{scenario.name.number}: {scenario.name}: {fault}" if at == 0 else f"    {fault}")
-    worked = sum(map(can_be_worked_out, found))
+    worked = sum(is_readable(scenario) and can_be_worked_out(scenario) for scenario in found)
     carried = sum(map(can_be_carried_out, found)) if program else 0
     print(f"{path.name}: {len(found)} scenarios, {worked} worked out, {carried} carried out, {differing} differ")
     return differing
