@@ -1,5 +1,6 @@
-"""What the figures of the benchmark may be, and the table that says whether they are. Times differ from run to run, so that a run fails
-only where a figure passes its bound by more than a tenth."""
+"""What the figures of the benchmark may be, and the table that says whether they are. Times
+differ from run to run, so that a run fails only where a figure passes its bound by more than a
+tenth."""
 from __future__ import annotations
 
 from inputs import CASES, EACH, HASH, LB, ONE, SMALL
@@ -7,7 +8,8 @@ from inputs import CASES, EACH, HASH, LB, ONE, SMALL
 Figures = dict[str, float]  # what was measured, by the name of its bound
 
 MARGIN = 1.1
-# Beside C without records so many of the cases have a bound, those that take the fewest times as long.
+# Beside C without records so many of the cases have a bound, those that take the fewest times as
+# long.
 CASES_NEAR_C = 5
 NEAR_C = f"time to C, {CASES_NEAR_C} of the {len(CASES)} cases"
 INSTRUCTIONS = f"instructions a frame, {SMALL}"
@@ -33,7 +35,10 @@ BESIDE_C: Figures = {
 }
 # Of captures on threads beside replays, the middle times.
 ON_THREADS: Figures = {
-    **{capture_of(group, cpus, "keeps"): most for group in (HASH, LB) for cpus, most in ((4, 0.7), (8, 0.9))},
+    **{
+        capture_of(group, cpus, "keeps"): most for group in (HASH, LB) for cpus,
+        most in ((4, 0.7), (8, 0.9))
+    },
     **{capture_of(EACH, 4, ring): 0.55 for ring in ("keeps", "keeps, 64 KiB")},
     capture_of(ONE, 8, "keeps"): 1.5,
 }
@@ -53,7 +58,8 @@ def verdict(figure: float | None, most: float) -> str:
 
 
 def passes_bounds(bounds: Figures, figures: Figures) -> bool:
-    """Prints the table of bounds, and gives whether a figure passes its bound by more than a tenth."""
+    """Prints the table of bounds, and gives whether a figure passes its bound by more than a
+    tenth."""
     print("\n## Bounds\n")
     print("| Figure | Measured | At most | Holds |")
     print("|---|---|---|---|")

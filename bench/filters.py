@@ -1,13 +1,16 @@
 #!/usr/bin/env python3
-"""Counts what an executed instruction of a filter costs in ringtap and in libpcap's `bpf_filter`, in the processor's instructions.
+"""Counts what an executed instruction of a filter costs in ringtap and in libpcap's
+`bpf_filter`, in the processor's instructions.
 
     bench/filters.py [PROGRAM]
 
-PROGRAM is crates/filter_table/out/filter_table, which runs the filters that it reads on the frames that it reads, and is built where it isn't
-there. Each filter runs on one frame, again and again: `tcp port 80 and host 10.0.0.1` as tcpdump compiles it, and programs of 4,096
-instructions without a jump, once additions alone and once one of each kind by turns. Of both it is what 1,000 runs take more than 500, and
-more than those of a filter that returns at once, so that reading, checking, starting and printing cancel. It needs valgrind, a C compiler and
-libpcap's headers. It ends with status 1 where ringtap takes more than MOST times libpcap's instructions.
+PROGRAM is crates/filter_table/out/filter_table, which runs the filters that it reads on the
+frames that it reads, and is built where it isn't there. Each filter runs on one frame, again and
+again: `tcp port 80 and host 10.0.0.1` as tcpdump compiles it, and programs of 4,096 instructions
+without a jump, once additions alone and once one of each kind by turns. Of both it is what 1,000
+runs take more than 500, and more than those of a filter that returns at once, so that reading,
+checking, starting and printing cancel. It needs valgrind, a C compiler and libpcap's headers. It
+ends with status 1 where ringtap takes more than MOST times libpcap's instructions.
 """
 from __future__ import annotations
 
@@ -26,7 +29,18 @@ FEW, MANY = 500, 1_000
 STRAIGHT = 4_096
 # TCP of IPv4 from 10.0.0.2, port 1234, to 10.0.0.1, port 80.
 FRAME = bytes.fromhex(
-    "020000000002" "020000000001" "0800" "4500002800010000" "40060000" "0a000002" "0a000001" "04d20050" "00000000" "00000000" "50000000" "00000000"
+    "020000000002"
+    "020000000001"
+    "0800"
+    "4500002800010000"
+    "40060000"
+    "0a000002"
+    "0a000001"
+    "04d20050"
+    "00000000"
+    "00000000"
+    "50000000"
+    "00000000"
 )
 # What `tcpdump -y EN10MB -ddd 'tcp port 80 and host 10.0.0.1'` writes (libpcap 1.10).
 TCP = """18
@@ -56,13 +70,16 @@ KINDS = [(0x28, 12), (0x54, 255), (0x04, 7), (0x02, 3), (0x60, 3), (0x15, 5), (0
 
 
 def straight(kinds: Sequence[tuple[int, int]]) -> str:
-    """A program of STRAIGHT instructions of these kinds by turns, the last of which keeps the packet."""
-    lines = [f"{code} 0 0 {k}" for code, k in (kinds[at % len(kinds)] for at in range(STRAIGHT - 1))]
+    """A program of STRAIGHT instructions of these kinds by turns, the last of which keeps the
+    packet."""
+    lines = [
+        f"{code} 0 0 {k}" for code, k in (kinds[at % len(kinds)] for at in range(STRAIGHT - 1))
+    ]
     return "\n".join([str(STRAIGHT), *lines, "6 0 0 262144", ""])
 
 
-# Each filter, and how many of its instructions are executed on FRAME: of TCP all but the last, since the frame comes from another host than
-# the one that the filter names, and goes to that.
+# Each filter, and how many of its instructions are executed on FRAME: of TCP all but the last,
+# since the frame comes from another host than the one that the filter names, and goes to that.
 FILTERS = {
     "tcp port 80 and host": (TCP, 17),
     "4,096 additions": (straight([(0x04, 1)]), STRAIGHT),
@@ -74,11 +91,15 @@ def count_of(words: list[str], lines: str | None = None) -> int:
     """The instructions of a run as valgrind counts them, which reads these lines."""
     tool = ["valgrind", "--tool=callgrind", "--callgrind-out-file=/dev/null"]
     ran = subprocess.run([*tool, *words], input=lines, capture_output=True, text=True, check=True)
-    return next(int(line.split()[-1].replace(",", "")) for line in ran.stderr.splitlines() if "Collected" in line)
+    return next(
+        int(line.split()[-1].replace(",", ""))
+        for line in ran.stderr.splitlines() if "Collected" in line
+    )
 
 
 def count_of_ours(program: str, text: str, count: int) -> int:
-    """The instructions of ringtap for so many runs of a filter, with all that it takes to come to them."""
+    """The instructions of ringtap for so many runs of a filter, with all that it takes to come
+    to them."""
     frames = f"frame {len(FRAME)} {FRAME.hex()}\n" * count
     return count_of([program], f"{frames}filter it\n{text}end\n")
 
@@ -103,7 +124,10 @@ def built_plain() -> str | None:
         print("\nno C compiler or no valgrind, so no filter is compared with libpcap")
         return None
     plain = os.path.abspath("plain_filter")
-    ran = subprocess.run([compiler, "-O2", "-o", plain, os.path.join(TOP, "bench", "plain_filter.c"), "-lpcap"], capture_output=True, text=True)
+    ran = subprocess.run(
+        [compiler, "-O2", "-o", plain, os.path.join(TOP, "bench", "plain_filter.c"), "-lpcap"],
+        capture_output=True, text=True
+    )
     if ran.returncode:
         print("\nlibpcap's headers aren't there, so no filter is compared with libpcap")
         return None
@@ -117,14 +141,24 @@ def costs_of_filters(program: str = PROGRAM) -> bool:
     if not plain:
         return False
     if not os.path.exists(program):
-        subprocess.run(["rt", "run"], cwd=CRATE, stdin=subprocess.DEVNULL, stdout=subprocess.DEVNULL, check=True)
-    print("| Filter | Instructions of it executed | ringtap, for each | libpcap, for each | Times |")
+        subprocess.run(
+            ["rt", "run"], cwd=CRATE, stdin=subprocess.DEVNULL, stdout=subprocess.DEVNULL,
+            check=True
+        )
+    print(
+        "| Filter | Instructions of it executed | ringtap, for each | libpcap, for each | Times |"
+    )
     print("|---|---|---|---|---|")
     too_much = False
     for name, (text, executed) in FILTERS.items():
-        ours, theirs = cost(count_of_ours, program, text, executed), cost(count_of_theirs, plain, text, executed)
+        ours, theirs = cost(count_of_ours, program, text, executed), cost(
+            count_of_theirs, plain, text, executed
+        )
         too_much = too_much or ours > MOST * theirs
-        print(f"| {name} | {executed:,} | {ours:.1f} | {theirs:.1f} | {ours / theirs:.2f} |", flush=True)
+        print(
+            f"| {name} | {executed:,} | {ours:.1f} | {theirs:.1f} | {ours / theirs:.2f} |",
+            flush=True
+        )
     return too_much
 
 

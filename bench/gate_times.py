@@ -1,24 +1,26 @@
 #!/usr/bin/env python3
 """Which crate and which of its parts takes the gate's time.
 
-    gate_times.py --watch OUT [PID]   samples the prover's processes each second, and writes to OUT what each took so far
-    gate_times.py --table OUT         prints a table of it: of each crate its own proof, its tests' proof, the first of its
-                                      edits, the others, and the check of the crate that ends them
+    gate_times.py --watch OUT [PID]   samples the prover's processes each second, and writes to OUT
+                                      what each took so far
+    gate_times.py --table OUT         prints a table of it: of each crate its own proof, its tests'
+                                      proof, the first of its edits, the others, and the check of
+                                      the crate that ends them
 
 The gate prints no times, so start the watch beside it, and keep its table in bench/results:
 
     rt ci > gate.log & python3 bench/gate_times.py --watch gate.json $!
     python3 bench/gate_times.py --table gate.json
 
-With a PID it counts the processes below that one alone, and ends with it; without one it counts every process of the prover on
-the machine, and ends when it is interrupted.
+With a PID it counts the processes below that one alone, and ends with it; without one it counts
+every process of the prover on the machine, and ends when it is interrupted.
 
-Each edit of a crate is tried over what those before it proved, so the first takes about as long as the crate's proof. Two or
-more end with a check of the crate itself over the same.
+Each edit of a crate is tried over what those before it proved, so the first takes about as long as
+the crate's proof. Two or more end with a check of the crate itself over the same.
 
-Times are seconds of one processor, for user and system. A process that ends between two samples is counted up to the last one,
-so a check falls short by a second at most, and one of less than a second may be missing. Memory is the largest resident size
-of one process.
+Times are seconds of one processor, for user and system. A process that ends between two samples
+is counted up to the last one, so a check falls short by a second at most, and one of less than a
+second may be missing. Memory is the largest resident size of one process.
 """
 from __future__ import annotations
 
@@ -39,7 +41,8 @@ TICK = os.sysconf("SC_CLK_TCK")
 
 
 class Seen(NamedTuple):
-    """What a process of the prover took until now, and when it began, in ticks since the machine did."""
+    """What a process of the prover took until now, and when it began, in ticks since the machine
+    did."""
 
     crate: str
     part: str
@@ -59,7 +62,8 @@ def fields_of(pid: int) -> list[str]:
 
 
 def top_of(pid: int) -> str:
-    """The folder of the repository, which rt runs in: that of the nearest process above the prover's own."""
+    """The folder of the repository, which rt runs in: that of the nearest process above the
+    prover's own."""
     while os.path.basename(text_of(pid, "cmdline").split("\0")[0]) == PROVER:
         pid = int(fields_of(pid)[1])
     return os.readlink(f"/proc/{pid}/cwd")
@@ -67,11 +71,15 @@ def top_of(pid: int) -> str:
 
 @functools.lru_cache(maxsize=None)
 def part_of(pid: int, begun: str, folder: str, crate: str, above: str) -> str:
-    """What a check in a copy of a crate is for. The one that ends the edits has the crate's own files."""
+    """What a check in a copy of a crate is for. The one that ends the edits has the crate's own
+    files."""
     own, copy = f"{above}/crates/{crate}/src", f"{folder}/src"
     try:
-        names = [os.path.relpath(f"{at}/{name}", own) for at, _, names in os.walk(own) for name in names]
-        return "edits" if any(filecmp.cmpfiles(own, copy, names, shallow=False)[1:]) else "last check"
+        names = [
+            os.path.relpath(f"{at}/{name}", own) for at, _, names in os.walk(own) for name in names
+        ]
+        differ = any(filecmp.cmpfiles(own, copy, names, shallow=False)[1:])
+        return "edits" if differ else "last check"
     except OSError:
         return "edits"
 
@@ -84,15 +92,23 @@ def seen_of(pid: int, fields: list[str]) -> Seen | None:
     crate, folder = words[words.index("--crate-name") + 1], os.readlink(f"/proc/{pid}/cwd")
     part = "tests" if "--test" in words else "proof"
     if os.path.basename(folder).startswith("rt-edit"):
-        # an edit is tried in a copy of the crate, in a folder of its own; rt itself is in the repository
+        # an edit is tried in a copy of the crate, in a folder of its own; rt itself is in the
+        # repository
         part = part_of(pid, fields[19], folder, crate, top_of(pid))
-    peak = next((line.split()[1] for line in text_of(pid, "status").splitlines() if line.startswith("VmHWM")), "0")
+    peak = next(
+        (
+            line.split()[1]
+            for line in text_of(pid, "status").splitlines() if line.startswith("VmHWM")
+        ),
+        "0"
+    )
     seconds = (int(fields[11]) + int(fields[12])) / TICK
     return Seen(crate, part, int(fields[19]), seconds, int(peak))
 
 
 def sample(seen: dict[str, Seen], top: int | None) -> bool:
-    """Notes what each process took, by its number and its start. Says whether the top one still runs."""
+    """Notes what each process took, by its number and its start. Says whether the top one still
+    runs."""
     stats = {}
     for name in filter(str.isdigit, os.listdir("/proc")):
         try:
@@ -138,7 +154,9 @@ def table(path: str) -> None:
     """Prints what was noted."""
     with open(path, encoding="utf-8") as file:
         told = json.load(file)
-    took: dict[str, dict[str, float]] = collections.defaultdict(lambda: collections.defaultdict(float))
+    took: dict[str, dict[str, float]] = collections.defaultdict(
+        lambda: collections.defaultdict(float)
+    )
     peak: dict[str, int] = collections.defaultdict(int)
     edited = set()
     for crate, part, _, seconds, kib in sorted(told["processes"], key=lambda it: it[2]):
@@ -148,16 +166,23 @@ def table(path: str) -> None:
         took[crate][part] += seconds
         took["all"][part] += seconds
         peak[crate], peak["all"] = max(peak[crate], kib), max(peak["all"], kib)
-    print("| Crate | Proof, s | Tests, s | First edit, s | Other edits, s | Last check, s | All, s | Memory, MiB |")
+    print(
+        "| Crate | Proof, s | Tests, s | First edit, s | Other edits, s | Last check, s | All, s "
+        "| Memory, MiB |"
+    )
     print("|---|---|---|---|---|---|---|---|")
-    for crate, parts in sorted(took.items(), key=lambda it: (it[0] != "all", sum(it[1].values())), reverse=True):
+    for crate, parts in sorted(
+        took.items(), key=lambda it: (it[0] != "all", sum(it[1].values())), reverse=True
+    ):
         times = " | ".join(f"{parts[part]:,.0f}" for part in PARTS)
         print(f"| {crate} | {times} | {sum(parts.values()):,.0f} | {peak[crate] / 1024:,.0f} |")
     print(f"\n{told['seconds']:,.0f} seconds on the clock.")
 
 
 def main() -> None:
-    parser = argparse.ArgumentParser(description=__doc__, formatter_class=argparse.RawDescriptionHelpFormatter)
+    parser = argparse.ArgumentParser(
+        description=__doc__, formatter_class=argparse.RawDescriptionHelpFormatter
+    )
     parser.add_argument("--watch", metavar="OUT")
     parser.add_argument("--table", metavar="OUT")
     parser.add_argument("pid", nargs="?", type=int)

@@ -23,7 +23,8 @@ RINGS: dict[str, Ring] = {
     "drops": {"block_size": 4096, "block_nr": 2, "frame_size": 2048, "frame_nr": 4},
 }
 SLOTS = {"block_size": 65536, "block_nr": 64, "frame_size": 2048, "frame_nr": 2048}
-# The rings of TPACKET_V2: by the bytes of a frame, as many slots as keep all frames of 1514 bytes, and the most slots there are.
+# The rings of TPACKET_V2: by the bytes of a frame, as many slots as keep all frames of 1514 bytes,
+# and the most slots there are.
 SLOT_RINGS: dict[str, Ring] = {
     "1514": {"block_size": MIB, "block_nr": 64, "frame_size": 2048, "frame_nr": 64 * MIB // 2048},
     "60": {"block_size": MIB, "block_nr": 64, "frame_size": 1024, "frame_nr": 64 * MIB // 1024},
@@ -46,17 +47,20 @@ SHARED: dict[str, Callable[[int], str]] = {
     EACH: lambda cpus: f"members {cpus}\nmode cpu\n",
     ONE: lambda cpus: "",
 }
-# What is compared with the program in C: the lengths of the frames or the kind of the flows, what the
-# group is, and the words of that program.
+# What is compared with the program in C: the lengths of the frames or the kind of the flows, what
+# the group is, and the words of that program.
 SMALL = "60 bytes"
 CASES: dict[str, tuple[str | list[int], str, Words]] = {
-    SMALL: (FRAMES["60"], "", []),
-    "60, 590 and 1514 bytes": (FRAMES["mixed"], "", []),
+    SMALL: (FRAMES["60"], "", []), "60, 590 and 1514 bytes": (FRAMES["mixed"], "", []),
     "1514 bytes": (FRAMES["1514"], "", []),
-    "hash of four, 60 bytes": ("small", f"members 4\nmode hash\nkey {KEY}\nfeatures 1\n", ["4", "key", KEY]),
+    "hash of four, 60 bytes": (
+        "small", f"members 4\nmode hash\nkey {KEY}\nfeatures 1\n", ["4", "key", KEY]
+    ),
     "hash of four, 1,042 bytes": ("hash", GROUPS["hash"], ["4", "key", KEY]),
     "reassembly": ("defrag", f"features 1\n{GROUPS['defrag']}", ["4", "key", KEY, "defrag"]),
-    "filter that passes few": ([60] * 15 + [1514], "filter large.ddd\n", ["1", "filter", "large.ddd"]),
+    "filter that passes few": (
+        [60] * 15 + [1514], "filter large.ddd\n", ["1", "filter", "large.ddd"]
+    ),
 }
 
 
@@ -71,7 +75,8 @@ def record_of(number: int, data: bytes) -> bytes:
 
 
 def write_until_full(path: str, start: bytes, size: int, parts: Iterator[bytes]) -> int:
-    """Writes the parts that a file of so many bytes has room for after its start, and gives their number."""
+    """Writes the parts that a file of so many bytes has room for after its start, and gives
+    their number."""
     left, count = size - len(start), 0
     with open(path, "wb") as file:
         file.write(start)
@@ -86,27 +91,38 @@ def write_until_full(path: str, start: bytes, size: int, parts: Iterator[bytes])
 def make_capture(path: str, size: int, lengths: Sequence[int]) -> int:
     """Writes a capture of at most so many bytes, and gives the number of its frames."""
     frames = itertools.cycle(map(frame, lengths))
-    return write_until_full(path, header(), size, (record_of(number, data) for number, data in enumerate(frames)))
+    return write_until_full(
+        path, header(), size, (record_of(number, data) for number, data in enumerate(frames))
+    )
 
 
 def make_blocks(path: str, size: int, lengths: Sequence[int]) -> int:
     """Writes a pcapng capture of at most so many bytes, and gives the number of its frames."""
-    start, frames = section("<") + interface("<", snap=LARGEST_RECORD), itertools.cycle(map(frame, lengths))
-    return write_until_full(path, start, size, (enhanced("<", 0, number * 10, data) for number, data in enumerate(frames)))
+    start, frames = section("<") + interface("<", snap=LARGEST_RECORD), itertools.cycle(
+        map(frame, lengths)
+    )
+    return write_until_full(
+        path, start, size,
+        (enhanced("<", 0, number * 10, data) for number, data in enumerate(frames))
+    )
 
 
 def datagram(number: int, fragment: int | None = None) -> bytes:
-    """A UDP datagram of IPv4 with 1,000 bytes of data, of one of some thousand flows, or one of its two fragments."""
+    """A UDP datagram of IPv4 with 1,000 bytes of data, of one of some thousand flows, or one of
+    its two fragments."""
     ports = struct.pack(">HHHH", 1024 + number % 4096, 53, 1000, 0)
     data, offset, more = ports + bytes(992), 0, 0
     if fragment is not None:
         data, offset, more = (data[:504], 0, 1) if fragment == 0 else (data[504:], 63, 0)
-    head = struct.pack(">BBHHHBBH", 0x45, 0, 20 + len(data), number % 65536, offset + 0x2000 * more, 64, 17, 0)
+    head = struct.pack(
+        ">BBHHHBBH", 0x45, 0, 20 + len(data), number % 65536, offset + 0x2000 * more, 64, 17, 0
+    )
     return LINK + head + struct.pack(">II", 0x0A000000 + number % 65521, 0x0A010001) + data
 
 
 def frames_of_flow(number: int, kind: str) -> list[bytes]:
-    """What stands for the datagram of a number: of `filter` every other one is no IPv4, of `defrag` it is two fragments."""
+    """What stands for the datagram of a number: of `filter` every other one is no IPv4, of
+    `defrag` it is two fragments."""
     if kind == "defrag" and number % 2:
         return [datagram(number, 0), datagram(number, 1)]
     if kind == "filter" and number % 2:
@@ -115,7 +131,8 @@ def frames_of_flow(number: int, kind: str) -> list[bytes]:
 
 
 def make_flows(path: str, size: int, kind: str) -> int:
-    """Writes a capture of UDP flows of at most so many bytes, and gives the number of its frames."""
+    """Writes a capture of UDP flows of at most so many bytes, and gives the number of its
+    frames."""
     left, number, count = size - 24, 0, 0
     with open(path, "wb") as file:
         file.write(header())
@@ -129,7 +146,8 @@ def make_flows(path: str, size: int, kind: str) -> int:
 
 
 def make_small_flows(path: str, size: int) -> int:
-    """Writes a capture of UDP flows in frames of 60 bytes of at most so many bytes, and gives the number of its frames."""
+    """Writes a capture of UDP flows in frames of 60 bytes of at most so many bytes, and gives
+    the number of its frames."""
     count = (size - 24) // 76
     with open(path, "wb") as file:
         file.write(header())
@@ -143,7 +161,9 @@ def make_case(kind: str | Sequence[int], size: int) -> int:
     """Writes the capture of a case, and gives the number of its frames."""
     if kind == "small":
         return make_small_flows("in.pcap", size)
-    return make_flows("in.pcap", size, kind) if isinstance(kind, str) else make_capture("in.pcap", size, kind)
+    return make_flows("in.pcap", size, kind) if isinstance(kind, str) else make_capture(
+        "in.pcap", size, kind
+    )
 
 
 # The captures of 4 MiB on threads, by the bytes of a frame.

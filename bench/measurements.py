@@ -1,4 +1,5 @@
-"""What a run takes: its time, its processor time, its memory, its page faults and its instructions."""
+"""What a run takes: its time, its processor time, its memory, its page faults and its
+instructions."""
 from __future__ import annotations
 
 import argparse
@@ -13,7 +14,8 @@ from typing import IO
 
 Words = list[str]
 Times = list[tuple[float, float]]  # the time and the CPU time of each run, in seconds
-Found = dict[tuple[str, int], tuple[float, int]]  # CPU time and memory, by what was run and its size
+# CPU time and memory, by what was run and its size
+Found = dict[tuple[str, int], tuple[float, int]]
 
 
 class Asked(argparse.Namespace):
@@ -35,7 +37,10 @@ TOP = os.path.join(os.path.dirname(os.path.abspath(__file__)), "..")
 WORK = os.path.join(TOP, "bench", "work")
 PROGRAM = os.path.join(TOP, "crates", "ringtap", "out", "ringtap")
 # The words of each command that runs the captures of a setup.
-COMMANDS = {"replay": ["replay", "conf", "sched"], "capture": ["capture", "conf"], "forward": ["forward", "conf"]}
+COMMANDS = {
+    "replay": ["replay", "conf", "sched"], "capture": ["capture", "conf"],
+    "forward": ["forward", "conf"]
+}
 
 
 def remove_outputs(words: Words, folder: str = ".") -> None:
@@ -46,7 +51,8 @@ def remove_outputs(words: Words, folder: str = ".") -> None:
 
 
 def usage_of(words: Words, out: IO[bytes] | int) -> tuple[float, resource.struct_rusage]:
-    """How many seconds a run takes, and what the system counts of it. One that fails ends the benchmark."""
+    """How many seconds a run takes, and what the system counts of it. One that fails ends the
+    benchmark."""
     start = time.monotonic()
     process = subprocess.Popen(words, stdout=out, stderr=subprocess.DEVNULL)
     _, status, usage = os.wait4(process.pid, 0)
@@ -58,7 +64,8 @@ def usage_of(words: Words, out: IO[bytes] | int) -> tuple[float, resource.struct
 
 
 def measure(words: Words, runs: int) -> tuple[float, float, int, str]:
-    """Of some runs the least time and CPU time in seconds, the largest memory in bytes, and what the last one printed."""
+    """Of some runs the least time and CPU time in seconds, the largest memory in bytes, and what
+    the last one printed."""
     best, least, memory, printed = float("inf"), float("inf"), 0, b""
     for _ in range(runs):
         remove_outputs(words)
@@ -88,9 +95,13 @@ def instructions_of(words: Words) -> int | None:
     if not shutil.which("valgrind"):
         return None
     ran = subprocess.run(
-        ["valgrind", "--tool=callgrind", "--callgrind-out-file=/dev/null", *words], capture_output=True, text=True, check=True
+        ["valgrind", "--tool=callgrind", "--callgrind-out-file=/dev/null", *words],
+        capture_output=True, text=True, check=True
     )
-    return next(int(line.split()[-1].replace(",", "")) for line in ran.stderr.splitlines() if "Collected" in line)
+    return next(
+        int(line.split()[-1].replace(",", ""))
+        for line in ran.stderr.splitlines() if "Collected" in line
+    )
 
 
 def total_of(printed: str) -> tuple[int, int]:

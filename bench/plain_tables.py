@@ -10,7 +10,10 @@ import sys
 from typing import NamedTuple
 
 from bounds import CASES_NEAR_C, INSTRUCTIONS, NEAR_C, Figures, memory_of, time_of
-from inputs import CASES, EACH, MAKERS, MIB, PASSES_LARGE, RINGS, SHARED, SMALL, SMALL_BLOCKS, Ring, make_case, write_setup
+from inputs import (
+    CASES, EACH, MAKERS, MIB, PASSES_LARGE, RINGS, SHARED, SMALL, SMALL_BLOCKS, Ring, make_case,
+    write_setup,
+)
 from measurements import COMMANDS, TOP, WORK, Asked, Words, faults_of, instructions_of, measure
 
 
@@ -26,7 +29,10 @@ class Row(NamedTuple):
 
 def same_files(members: int) -> bool:
     """Whether both programs saved the same packets."""
-    return all(filecmp.cmp(f"out.{member}.pcap", f"plain.{member}.pcap", shallow=False) for member in range(members))
+    return all(
+        filecmp.cmp(f"out.{member}.pcap", f"plain.{member}.pcap", shallow=False)
+        for member in range(members)
+    )
 
 
 def built_plain() -> str | None:
@@ -36,7 +42,10 @@ def built_plain() -> str | None:
         print("\nno C compiler, so nothing is compared with a program in C")
         return None
     plain = os.path.join(WORK, "plain_ring")
-    subprocess.run([compiler, "-O2", "-pthread", "-o", plain, os.path.join(TOP, "bench", "plain_ring.c")], check=True)
+    subprocess.run(
+        [compiler, "-O2", "-pthread", "-o", plain, os.path.join(TOP, "bench", "plain_ring.c")],
+        check=True
+    )
     return plain
 
 
@@ -45,7 +54,8 @@ def words_of_plain(plain: str, ring: Ring, words: Words) -> Words:
 
 
 def times_by_turns(runs: dict[str, Words], asked: Asked, members: int) -> dict[str, list[float]]:
-    """Of some runs, each by its name, the times by turns. What the runs of the program in C save is compared with what ringtap saved."""
+    """Of some runs, each by its name, the times by turns. What the runs of the program in C save
+    is compared with what ringtap saved."""
     times: dict[str, list[float]] = {name: [] for name in runs}
     for turn in range(asked.runs):
         for name, words in runs.items():
@@ -60,7 +70,10 @@ def row_beside_plain(program: str, plain: str, case: str, asked: Asked) -> Row:
     kind, group, words = CASES[case]
     words = words or ["1"]
     theirs = words_of_plain(plain, RINGS["keeps"], words)
-    runs = {"ringtap": [program, *COMMANDS["replay"]], "C": theirs, "C with records": [*theirs, "records"]}
+    runs = {
+        "ringtap": [program, *COMMANDS["replay"]], "C": theirs,
+        "C with records": [*theirs, "records"]
+    }
     write_setup("conf", RINGS["keeps"], 1, group)
     few = make_case(kind, 2 * MIB)
     counted = [instructions_of(one) for one in runs.values()]
@@ -83,8 +96,9 @@ def figures_of(rows: dict[str, Row]) -> Figures:
 
 
 def times_of_plain(program: str, asked: Asked) -> Figures:
-    """Prints the tables of the program in C, without records and with them, and how many times its time each case takes. What has bounds
-    is given back, nothing where there is no C compiler."""
+    """Prints the tables of the program in C, without records and with them, and how many times
+    its time each case takes. What has bounds is given back, nothing where there is no C
+    compiler."""
     print("\n## Beside a plain C program\n")
     plain = built_plain()
     if not plain:
@@ -92,11 +106,20 @@ def times_of_plain(program: str, asked: Asked) -> Figures:
     with open("large.ddd", "w", encoding="ascii") as file:
         file.write(PASSES_LARGE)
     rows = {case: row_beside_plain(program, plain, case, asked) for case in CASES}
-    print("\n| Case, 32 MiB | Frames | Time, ms | C, ms | C with records, ms | To C | C with records to C | To C with records |")
+    print(
+        "\n| Case, 32 MiB | Frames | Time, ms | C, ms | C with records, ms | To C | C with records "
+        "to C | To C with records |"
+    )
     print("|---|---|---|---|---|---|---|---|")
     for case, (count, (ours, bare, full), *_) in rows.items():
-        print(f"| {case} | {count:,} | {ours:.0f} | {bare:.0f} | {full:.0f} | {ours / bare:.2f} | {full / bare:.2f} | {ours / full:.2f} |")
-    print("\n| Case, 32 MiB | Page faults | C | C with records | Memory, MiB | C | C with records | Instructions a frame | C | C with records |")
+        print(
+            f"| {case} | {count:,} | {ours:.0f} | {bare:.0f} | {full:.0f} | {ours / bare:.2f} | "
+            f"{full / bare:.2f} | {ours / full:.2f} |"
+        )
+    print(
+        "\n| Case, 32 MiB | Page faults | C | C with records | Memory, MiB | C | C with records | "
+        "Instructions a frame | C | C with records |"
+    )
     print("|---|---|---|---|---|---|---|---|---|---|")
     for case, (_, _, *counts) in rows.items():
         numbers = [f"{number:,.0f}" if number else "-" for count in counts for number in count]
@@ -105,12 +128,16 @@ def times_of_plain(program: str, asked: Asked) -> Figures:
 
 
 def times_of_plain_threads(program: str, asked: Asked) -> None:
-    """Prints what four CPUs with a member each gain on threads, in ringtap and in C, where a thread shares nothing with the others."""
+    """Prints what four CPUs with a member each gain on threads, in ringtap and in C, where a
+    thread shares nothing with the others."""
     print("\n## C on threads\n")
     plain = built_plain()
     if not plain:
         return
-    print("\n| Frames of | Blocks | Replay, s | middle | Capture, s | middle | Times | middle | C in a row, s | middle | C on threads, s | middle | Times | middle |")
+    print(
+        "\n| Frames of | Blocks | Replay, s | middle | Capture, s | middle | Times | middle | C in "
+        "a row, s | middle | C on threads, s | middle | Times | middle |"
+    )
     print("|---|---|---|---|---|---|---|---|---|---|---|---|---|---|")
     for kind, maker in MAKERS.items():
         maker()
@@ -119,8 +146,14 @@ def times_of_plain_threads(program: str, asked: Asked) -> None:
             theirs = words_of_plain(plain, ring, ["1", "records", "cpus", "4"])
             ours = {command: [program, *COMMANDS[command]] for command in ("replay", "capture")}
             runs = {**ours, "in a row": theirs, "on threads": [*theirs, "threads"]}
-            times = [(min(taken), statistics.median(taken)) for taken in times_by_turns(runs, asked, 4).values()]
+            times = [
+                (min(taken), statistics.median(taken))
+                for taken in times_by_turns(runs, asked, 4).values()
+            ]
             cells = [f"{ring['block_size'] // 1024:,} KiB"]
             for before, after in (times[:2], times[2:]):
-                cells += [f"{taken:.3f}" for taken in before + after] + [f"{new / old:.2f}" for old, new in zip(before, after)]
+                cells += (
+                    [f"{taken:.3f}" for taken in before + after]
+                    + [f"{new / old:.2f}" for old, new in zip(before, after)]
+                )
             print(f"| {kind} | " + " | ".join(cells) + " |", flush=True)

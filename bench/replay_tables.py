@@ -1,4 +1,5 @@
-"""The tables of replays, made frames and sent captures, and of how what they take grows with their size."""
+"""The tables of replays, made frames and sent captures, and of how what they take grows with
+their size."""
 from __future__ import annotations
 
 import os
@@ -6,7 +7,8 @@ import shutil
 import sys
 
 from inputs import (
-    FRAMES, GROUPS, MIB, PASSES_IP, RINGS, SLOT_RINGS, SLOTS, make_blocks, make_capture, make_flows, write_setup,
+    FRAMES, GROUPS, MIB, PASSES_IP, RINGS, SLOT_RINGS, SLOTS, make_blocks, make_capture, make_flows,
+    write_setup,
 )
 from measurements import COMMANDS, Asked, Found, measure, tested, total_of
 
@@ -16,18 +18,25 @@ DOUBLES = {"MiB": (16, 32), "made frames": (10_000, 20_000)}
 
 
 def times_of_replays(program: str, asked: Asked) -> Found:
-    """Prints the table of replays, beside tcpdump where it is there, and gives their CPU times and memory."""
+    """Prints the table of replays, beside tcpdump where it is there, and gives their CPU times
+    and memory."""
     print("\n## Replays\n")
     dump = shutil.which("tcpdump")
     if not dump:
         print("no tcpdump, so there is no ratio to it")
-    print("| Frames | MiB | Ring | Kept | Dropped | Time, s | CPU, s | MiB/s | Memory, MiB | To tcpdump |")
+    print(
+        "| Frames | MiB | Ring | Kept | Dropped | Time, s | CPU, s | MiB/s | Memory, MiB | To "
+        "tcpdump |"
+    )
     print("|---|---|---|---|---|---|---|---|---|---|")
     found: Found = {}
     for kind, lengths in FRAMES.items():
         for size in asked.all_sizes():
             count = make_capture("in.pcap", size * MIB, lengths)
-            by_dump = measure([dump, "-n", "-r", "in.pcap", "-w", "out.pcap"], asked.runs)[0] if dump else None
+            by_dump = (
+                measure([dump, "-n", "-r", "in.pcap", "-w", "out.pcap"], asked.runs)[0] if dump
+                else None
+            )
             for ring, numbers in RINGS.items():
                 write_setup("conf", numbers)
                 taken, cpu, memory, printed = measure([program, *COMMANDS["replay"]], asked.runs)
@@ -35,7 +44,8 @@ def times_of_replays(program: str, asked: Asked) -> Found:
                 found[f"{kind}, ring that {ring}", size] = cpu, memory
                 ratio = f"{taken / by_dump:.1f}" if by_dump else "-"
                 print(
-                    f"| {kind} | {size} | {ring} | {kept:,} | {drops:,} | {taken:.3f} | {cpu:.3f} | {size / taken:.0f}"
+                    f"| {kind} | {size} | {ring} | {kept:,} | {drops:,} | {taken:.3f} | {cpu:.3f} "
+                    f"| {size / taken:.0f}"
                     f" | {memory / MIB:.0f} | {ratio} |",
                     flush=True,
                 )
@@ -43,7 +53,8 @@ def times_of_replays(program: str, asked: Asked) -> Found:
 
 
 def times_beside(program: str, other: str, asked: Asked) -> None:
-    """Prints how long the replays of another program take and how long ours, by turns, so that both meet the same machine."""
+    """Prints how long the replays of another program take and how long ours, by turns, so that
+    both meet the same machine."""
     print("| Frames | MiB | Ring | Other, s | Time, s | Times | Other, CPU s | CPU, s | Times |")
     print("|---|---|---|---|---|---|---|---|---|")
     for kind, lengths in FRAMES.items():
@@ -61,16 +72,21 @@ def times_beside(program: str, other: str, asked: Asked) -> None:
                 if said != says:
                     sys.exit(f"{kind}, ring that {ring}: the programs print otherwise")
                 print(
-                    f"| {kind} | {size} | {ring} | {old:.3f} | {new:.3f} | {new / old:.2f} | {old_cpu:.3f} | {new_cpu:.3f}"
+                    f"| {kind} | {size} | {ring} | {old:.3f} | {new:.3f} | {new / old:.2f} | "
+                    f"{old_cpu:.3f} | {new_cpu:.3f}"
                     f" | {new_cpu / old_cpu:.2f} |",
                     flush=True,
                 )
 
 
 def times_of_blocks(program: str, asked: Asked) -> None:
-    """Prints how long replays of pcapng captures take, beside those of pcap captures of the same frames."""
+    """Prints how long replays of pcapng captures take, beside those of pcap captures of the same
+    frames."""
     print("\n## pcapng beside pcap\n")
-    print("| Frames | MiB | pcap frames | CPU, s | Memory, MiB | pcapng frames | CPU, s | Memory, MiB | CPU of a frame, times |")
+    print(
+        "| Frames | MiB | pcap frames | CPU, s | Memory, MiB | pcapng frames | CPU, s | Memory, "
+        "MiB | CPU of a frame, times |"
+    )
     print("|---|---|---|---|---|---|---|---|---|")
     write_setup("conf", RINGS["keeps"])
     for kind, lengths in FRAMES.items():
@@ -82,7 +98,9 @@ def times_of_blocks(program: str, asked: Asked) -> None:
                 kept, _ = tested(kind, "keeps", count, printed)
                 cells.append(f"{kept:,} | {cpu:.3f} | {memory / MIB:.0f}")
                 each.append(cpu / count)
-            print(f"| {kind} | {size} | {' | '.join(cells)} | {each[1] / each[0]:.2f} |", flush=True)
+            print(
+                f"| {kind} | {size} | {' | '.join(cells)} | {each[1] / each[0]:.2f} |", flush=True
+            )
 
 
 def times_of_groups(program: str, asked: Asked) -> Found:
@@ -104,7 +122,8 @@ def times_of_groups(program: str, asked: Asked) -> Found:
         if drops or not kept:
             sys.exit(f"{kind}: {kept} kept, {drops} dropped")
         print(
-            f"| {kind} | {size * cpus} | {cpus} | {count * cpus:,} | {taken:.3f} | {cpu:.3f} | {size * cpus / taken:.0f}"
+            f"| {kind} | {size * cpus} | {cpus} | {count * cpus:,} | {taken:.3f} | {cpu:.3f} | "
+            f"{size * cpus / taken:.0f}"
             f" | {memory / MIB:.0f} |",
             flush=True,
         )
@@ -112,7 +131,8 @@ def times_of_groups(program: str, asked: Asked) -> Found:
 
 
 def times_of_made(program: str, asked: Asked) -> Found:
-    """Prints the table of made frames, and gives their CPU times and memory. The MiB are those of the files that are saved."""
+    """Prints the table of made frames, and gives their CPU times and memory. The MiB are those
+    of the files that are saved."""
     print("\n## Made frames\n")
     print("\n| Made | MiB | CPUs | Frames | Time, s | CPU, s | MiB/s | Memory, MiB |")
     print("|---|---|---|---|---|---|---|---|")
@@ -125,7 +145,8 @@ def times_of_made(program: str, asked: Asked) -> Found:
             sys.exit(f"make of {count} frames: {printed}")
         size = sum(os.path.getsize(f"out.{member}.pcap") for member in range(4)) / MIB
         print(
-            f"| make | {size:.1f} | 2 | {count:,} | {taken:.3f} | {cpu:.3f} | {size / taken:.0f} | {memory / MIB:.0f} |",
+            f"| make | {size:.1f} | 2 | {count:,} | {taken:.3f} | {cpu:.3f} | {size / taken:.0f} "
+            f"| {memory / MIB:.0f} |",
             flush=True,
         )
     return found
@@ -146,14 +167,16 @@ def times_of_sent(program: str, asked: Asked) -> Found:
             if printed.splitlines()[-1] != f"send sent {count} skipped 0 stop none":
                 sys.exit(f"send of {count} frames: {printed}")
             print(
-                f"| {kind} | {size} | {count:,} | {taken:.3f} | {cpu:.3f} | {size / taken:.0f} | {memory / MIB:.0f} |",
+                f"| {kind} | {size} | {count:,} | {taken:.3f} | {cpu:.3f} | {size / taken:.0f} | "
+                f"{memory / MIB:.0f} |",
                 flush=True,
             )
     return found
 
 
 def times_of_slots(program: str, asked: Asked) -> Found:
-    """Prints the table of replays over rings of TPACKET_V2 that nobody reads, and gives their CPU times and memory."""
+    """Prints the table of replays over rings of TPACKET_V2 that nobody reads, and gives their
+    CPU times and memory."""
     print("\n## Rings of slots\n")
     print("\n| Frames | Slots | MiB | Kept | Dropped | Time, s | CPU, s | MiB/s | Memory, MiB |")
     print("|---|---|---|---|---|---|---|---|---|")
@@ -168,7 +191,8 @@ def times_of_slots(program: str, asked: Asked) -> Found:
             if total_of(printed) != (kept, count - kept):
                 sys.exit(f"replay2 of {count} frames: {printed}")
             print(
-                f"| {kind} | {ring['frame_nr']:,} | {size} | {kept:,} | {count - kept:,} | {taken:.3f} | {cpu:.3f}"
+                f"| {kind} | {ring['frame_nr']:,} | {size} | {kept:,} | {count - kept:,} | "
+                f"{taken:.3f} | {cpu:.3f}"
                 f" | {size / taken:.0f} | {memory / MIB:.0f} |",
                 flush=True,
             )
@@ -176,7 +200,8 @@ def times_of_slots(program: str, asked: Asked) -> Found:
 
 
 def memory_of_refused(program: str, asked: Asked) -> bool:
-    """Prints how memory grows where a filter refuses every frame, and gives whether it grows too much."""
+    """Prints how memory grows where a filter refuses every frame, and gives whether it grows too
+    much."""
     print("\n## A filter that refuses every frame\n")
     with open("refuse.ddd", "w", encoding="ascii") as file:
         file.write("1\n6 0 0 0\n")
@@ -188,12 +213,16 @@ def memory_of_refused(program: str, asked: Asked) -> bool:
         seen.append((count, memory))
     (few, small), (many, large) = seen
     each = (large - small) / (many - few)
-    print(f"\nfilter that refuses all, from 8 to 32 MiB: {small / MIB:.1f} to {large / MIB:.1f} MiB, {each:.0f} bytes a frame")
+    print(
+        f"\nfilter that refuses all, from 8 to 32 MiB: {small / MIB:.1f} to {large / MIB:.1f} MiB, "
+        f"{each:.0f} bytes a frame"
+    )
     return each > 256
 
 
 def grows(found: Found) -> bool:
-    """Prints how CPU time and memory grow where the input doubles, and gives whether one of them grows too much."""
+    """Prints how CPU time and memory grow where the input doubles, and gives whether one of them
+    grows too much."""
     print("\n## Growth\n")
     too_much = False
     for unit, (half, whole) in DOUBLES.items():
@@ -204,7 +233,8 @@ def grows(found: Found) -> bool:
                 is_bad = max(in_time, in_memory) > GROWTH
                 too_much = too_much or is_bad
                 print(
-                    f"from {half:,} to {whole:,} {unit}, {what}: CPU time by {in_time:.2f}, memory by {in_memory:.2f}"
+                    f"from {half:,} to {whole:,} {unit}, {what}: CPU time by {in_time:.2f}, memory "
+                    f"by {in_memory:.2f}"
                     f"{', which is too much' if is_bad else ''}"
                 )
     return too_much

@@ -1,7 +1,9 @@
-"""What all checks have in common: the programs, a folder of a test's own, and what a test needs of the machine.
+"""What all checks have in common: the programs, a folder of a test's own, and what a test needs
+of the machine.
 
-A test that needs a command, a module or a right says so by `@pytest.mark.needs("tcpdump")`, and is skipped where that isn't
-there. With `CI` set nothing else skips: a test that leaves itself out though its needs are there fails, with its reason.
+A test that needs a command, a module or a right says so by `@pytest.mark.needs("tcpdump")`, and
+is skipped where that isn't there. With `CI` set nothing else skips: a test that leaves itself
+out though its needs are there fails, with its reason.
 """
 from __future__ import annotations
 
@@ -26,13 +28,18 @@ def built(program: Path) -> Path:
 
 
 def pytest_configure(config: pytest.Config) -> None:
-    config.addinivalue_line("markers", "needs(what, ..): commands, modules and rights without which the test is skipped")
+    config.addinivalue_line(
+        "markers", "needs(what, ..): commands, modules and rights without which the test is skipped"
+    )
 
 
 def pytest_generate_tests(metafunc: pytest.Metafunc) -> None:
     """A test of `program` is one for each of them."""
     if "program" in metafunc.fixturenames:
-        metafunc.parametrize("program", PROGRAMS, ids=[path.name for path in PROGRAMS], indirect=True, scope="session")
+        metafunc.parametrize(
+            "program", PROGRAMS, ids=[path.name for path in PROGRAMS], indirect=True,
+            scope="session"
+        )
 
 
 @pytest.fixture(scope="session")
@@ -57,7 +64,8 @@ def new_room() -> Iterator[Path]:
 
 @pytest.fixture
 def room() -> Iterator[Path]:
-    """A folder of the test's own, into which every user may look; gone at its end with all that is in it."""
+    """A folder of the test's own, into which every user may look; gone at its end with all that
+    is in it."""
     yield from new_room()
 
 
@@ -101,6 +109,11 @@ def pytest_terminal_summary(terminalreporter: pytest.TerminalReporter) -> None:
         counts[why] = counts.get(why, 0) + 1
     for why, count in sorted(counts.items()):
         terminalreporter.write_line(f"skipped: {count} {'checks' if count > 1 else 'check'}: {why}")
-    found = {kind: len(terminalreporter.stats.get(kind, [])) for kind in ("passed", "failed", "error")}
+    found = {
+        kind: len(terminalreporter.stats.get(kind, []))
+        for kind in ("passed", "failed", "error")
+    }
     failed = found["failed"] + found["error"]
-    terminalreporter.write_line(f"checks: {found['passed']} passed, {failed} failed, {sum(counts.values())} skipped")
+    terminalreporter.write_line(
+        f"checks: {found['passed']} passed, {failed} failed, {sum(counts.values())} skipped"
+    )

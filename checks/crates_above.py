@@ -4,8 +4,8 @@
     crates_above.py           says whether it is what crates.txt and the newest run of the gate give
     crates_above.py --write   writes it anew
 
-The minutes are those of the crate and of all crates above it in the newest table of bench/gate_times.py, a file
-bench/results/DAY-gate.md; without one the table has no minutes.
+The minutes are those of the crate and of all crates above it in the newest table of
+bench/gate_times.py, a file bench/results/DAY-gate.md; without one the table has no minutes.
 
 It runs in the top folder of the repository.
 """
@@ -19,21 +19,27 @@ import sys
 TOP = pathlib.Path.cwd()
 PAGE = TOP / "CONTRIBUTING.md"
 TABLE = re.compile(r"^\| A change in \|.*\n(?:\|.*\n)+", re.M)
-BANDS = (40, 30, 25, 20, 15, 10, 8, 6, 5, 1, 0)  # a row has the crates with at least so many above them, and with fewer than the row before
+# a row has the crates with at least so many above them, and with fewer than the row before
+BANDS = (40, 30, 25, 20, 15, 10, 8, 6, 5, 1, 0)
 
 
 def dependencies() -> dict[str, set[str]]:
     """Of each crate the crates of the repository that it names in crates.txt."""
-    lines = [line.partition("#")[0].partition(":") for line in (TOP / "crates.txt").read_text(encoding="utf-8").splitlines()]
+    text = (TOP / "crates.txt").read_text(encoding="utf-8")
+    lines = [line.partition("#")[0].partition(":") for line in text.splitlines()]
     named = {name.split()[0]: set(words.split()) for name, colon, words in lines if colon}
     return {name: words & named.keys() for name, words in named.items()}
 
 
 def all_above(named: dict[str, set[str]]) -> dict[str, set[str]]:
     """Of each crate those that name it, or one that does, and so on."""
-    above: dict[str, set[str]] = {name: {user for user, words in named.items() if name in words} for name in named}
+    above: dict[str, set[str]] = {
+        name: {user for user, words in named.items() if name in words} for name in named
+    }
     while True:
-        further = {name: users.union(*(above[user] for user in users)) for name, users in above.items()}
+        further = {
+            name: users.union(*(above[user] for user in users)) for name, users in above.items()
+        }
         if further == above:
             return above
         above = further
@@ -42,7 +48,8 @@ def all_above(named: dict[str, set[str]]) -> dict[str, set[str]]:
 def seconds() -> dict[str, float]:
     """The processor seconds of each crate in the newest table of a run of the gate."""
     runs = sorted((TOP / "bench/results").glob("*-gate.md"))
-    rows = re.findall(r"^\| (\w+) \|.* ([\d,]+) \| [\d,]+ \|$", runs[-1].read_text(encoding="utf-8"), re.M) if runs else []
+    text = runs[-1].read_text(encoding="utf-8") if runs else ""
+    rows = re.findall(r"^\| (\w+) \|.* ([\d,]+) \| [\d,]+ \|$", text, re.M)
     return {crate: float(took.replace(",", "")) for crate, took in rows}
 
 
@@ -62,8 +69,12 @@ def table() -> str:
         crates = [name for name in left if len(above[name]) >= band]
         left = [name for name in left if name not in crates]
         if crates:
-            minutes = [round(sum(took.get(one, 0.0) for one in {name, *above[name]}) / 60) for name in crates]
-            rows.append([", ".join(crates), span([len(above[name]) for name in crates]), *[span(minutes)] * bool(took)])
+            minutes = [
+                round(sum(took.get(one, 0.0) for one in {name, *above[name]}) / 60)
+                for name in crates
+            ]
+            counts = span([len(above[name]) for name in crates])
+            rows.append([", ".join(crates), counts, *[span(minutes)] * bool(took)])
     lines = [f"| {' | '.join(row)} |" for row in rows]
     return "\n".join([lines[0], "|---" * len(heads) + "|", *lines[1:]]) + "\n"
 
@@ -78,7 +89,10 @@ def main() -> None:
     if words.parse_args().write:
         PAGE.write_text(anew, encoding="utf-8")
     elif anew != text:
-        sys.exit("CONTRIBUTING.md: the table of crates isn't what crates.txt gives: `python3 checks/crates_above.py --write` makes it anew")
+        sys.exit(
+            "CONTRIBUTING.md: the table of crates isn't what crates.txt gives: "
+            "`python3 checks/crates_above.py --write` makes it anew"
+        )
     print(f"crates above: {len(dependencies())} crates")
 
 

@@ -1,5 +1,6 @@
 #!/usr/bin/env python3
-"""Rings of ringtap beside those of a Linux kernel; `kernel/rings.py` says with which words it is run."""
+"""Rings of ringtap beside those of a Linux kernel; `kernel/rings.py` says with which words it is
+run."""
 import sys
 
 from kernel.rings import main

@@ -1,4 +1,5 @@
-"""Where the repository, its tools and the programs to check are. Who imports this can import the modules of the tools."""
+"""Where the repository, its tools and the programs to check are. Who imports this can import the
+modules of the tools."""
 from __future__ import annotations
 
 import os
@@ -15,7 +16,10 @@ def programs() -> list[Path]:
     """Those that RINGTAP names, with colons between, or those of both compilers that were built."""
     if named := os.environ.get("RINGTAP"):
         return [Path(name).resolve() for name in named.split(":")]
-    built = [path for path in (OUT / "ringtap", OUT / "ringtap.by-rattle") if os.access(path, os.X_OK)]
+    built = [
+        path
+        for path in (OUT / "ringtap", OUT / "ringtap.by-rattle") if os.access(path, os.X_OK)
+    ]
     return built if OUT / "ringtap" in built else [UNBUILT]
 
 

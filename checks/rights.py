@@ -43,7 +43,8 @@ def small_mount() -> bool:
 
 
 def other_user() -> bool:
-    """Whether a run has no more rights than files give it: it isn't root's, or can be another user's."""
+    """Whether a run has no more rights than files give it: it isn't root's, or can be another
+    user's."""
     return os.getuid() != 0 or works(["setpriv", "--reuid=65534", "--clear-groups", "true"])
 
 
@@ -63,7 +64,8 @@ RIGHTS: dict[str, Callable[[], bool]] = {
 
 @functools.cache
 def lack(what: str) -> str | None:
-    """Why a need isn't met; None where it is. A need is a right of the table, a module as `python3:NAME`, or a command."""
+    """Why a need isn't met; None where it is. A need is a right of the table, a module as
+    `python3:NAME`, or a command."""
     if what == "a kernel to ask":
         from kernel.rings import why_not  # which imports what only the kernel's checks use
 

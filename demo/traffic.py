@@ -1,8 +1,8 @@
 #!/usr/bin/env python3
 """Makes DNS and TCP traffic on the loopback device, while `make.sh` captures it there.
 
-A small responder answers DNS queries over UDP, and a small server answers a request over TCP. Both stand in this
-script, so that nothing but the loopback device is needed.
+A small responder answers DNS queries over UDP, and a small server answers a request over TCP.
+Both stand in this script, so that nothing but the loopback device is needed.
 """
 import socket
 import struct
@@ -22,7 +22,10 @@ def encoded(name):
 
 
 def query(number, name, kind):
-    return struct.pack(">HHHHHH", number, 0x0100, 1, 0, 0, 0) + encoded(name) + struct.pack(">HH", kind, 1)
+    return (
+        struct.pack(">HHHHHH", number, 0x0100, 1, 0, 0, 0) + encoded(name)
+        + struct.pack(">HH", kind, 1)
+    )
 
 
 def answer(message):
@@ -42,7 +45,10 @@ def answer(message):
     elif address and kind == TYPE_TXT:
         records = [bytes([200]) + bytes(97 + (i + j) % 26 for j in range(200)) for i in range(6)]
     head = struct.pack(">HHHHHH", number, 0x8580 | (0 if address else 3), 1, len(records), 0, 0)
-    rest = b"".join(struct.pack(">HHHIH", 0xC00C, kind, 1, 60, len(data)) + data for data in records)
+    rest = b"".join(
+        struct.pack(">HHHIH", 0xC00C, kind, 1, 60, len(data)) + data
+        for data in records
+    )
     return head + message[12 : end + 4] + rest
 
 
@@ -61,7 +67,10 @@ def serve(server, sizes):
 
 
 def main():
-    questions = [(name, TYPE_A) for name in ADDRESSES] + [("four.example", TYPE_A), ("two.example", TYPE_TXT)]
+    questions = (
+        [(name, TYPE_A) for name in ADDRESSES]
+        + [("four.example", TYPE_A), ("two.example", TYPE_TXT)]
+    )
     dns = socket.socket(socket.AF_INET, socket.SOCK_DGRAM)
     dns.bind((HOST, DNS_PORT))
     responder = threading.Thread(target=respond, args=(dns, len(questions)))

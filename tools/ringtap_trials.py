@@ -10,7 +10,7 @@ from pathlib import Path
 
 from ringtap_captures import LARGEST_CAPTURE, CaptureStream, CaptureWriter
 from ringtap_clock import Pace, Shape
-from ringtap_files import Fault, Setup
+from ringtap_files import Fault
 from ringtap_outputs import write_text
 from ringtap_runs import MemberReport, Progress, Report, Room
 from schedule import DEFAULT_TIMEOUT, Fed, schedule_of

@@ -16,8 +16,14 @@ Answered = Asked | Attached | Question | Sending
 
 
 def setup_of(request: Request, more: str = "") -> str:
-    lines = [f"{word} {getattr(request, word)}\n" for word in ("block_size", "block_nr", "frame_size", "frame_nr")]
-    lines += [f"{word} {getattr(request, word)}\n" for word in ("tov", "priv", "features") if getattr(request, word)]
+    lines = [
+        f"{word} {getattr(request, word)}\n"
+        for word in ("block_size", "block_nr", "frame_size", "frame_nr")
+    ]
+    lines += [
+        f"{word} {getattr(request, word)}\n"
+        for word in ("tov", "priv", "features") if getattr(request, word)
+    ]
     return "".join(lines) + f"cpu in.pcap\n{more}"
 
 
@@ -38,7 +44,9 @@ def refusal(printed: str) -> str:
     return printed.split()[-1] if printed.startswith(("setup line", "filter line")) else "ok"
 
 
-def compare_answer(case: Answered, given: list[str], program: str, room: Path, tally: Tally) -> None:
+def compare_answer(
+    case: Answered, given: list[str], program: str, room: Path, tally: Tally
+) -> None:
     if isinstance(case, Sending):
         compare_sending(case, given, program, room)
     elif isinstance(case, Question):
@@ -55,7 +63,10 @@ def compare_refusal(case: Asked | Attached, given: list[str], program: str, room
         command = "send" if case.transmit else "replay2" if case.version == V2 else "check"
         ours = refusal(run(program, room, command, setup_of(case.request)))
     else:
-        lines = [str(len(case.program)), *(" ".join(map(str, instruction)) for instruction in case.program)]
+        lines = [
+            str(len(case.program)),
+            *(" ".join(map(str, instruction)) for instruction in case.program)
+        ]
         (room / "filter").write_text("\n".join(lines) + "\n", encoding="ascii")
         ours = refusal(run(program, room, "check", setup_of(Request(), "filter filter\n")))
     if given != [case.kernel] or ours != case.ringtap:
@@ -65,14 +76,19 @@ def compare_refusal(case: Asked | Attached, given: list[str], program: str, room
 
 
 def compare_sending(case: Sending, given: list[str], program: str, room: Path) -> None:
-    """The frames that came out are those that ringtap sends, byte for byte, and the ring stops at the same frame. Where they come
-    out the kernel takes a tag out of them."""
+    """The frames that came out are those that ringtap sends, byte for byte, and the ring stops
+    at the same frame. Where they come out the kernel takes a tag out of them."""
     capture = output(record(frame, sec=0, fraction=0) for frame in case.frames)
-    printed = run(program, room, "send", setup_of(case.request, "out out\n" + "skip_bad yes\n" * case.loss), capture)
+    printed = run(
+        program, room, "send", setup_of(case.request, "out out\n" + "skip_bad yes\n" * case.loss),
+        capture
+    )
     ours = [untagged(frame.data) for frame in frames_of((room / "out.tx.pcap").read_bytes())[0]]
     theirs = [bytes.fromhex(line) for line in given if " " not in line]
     if ours != theirs:
-        raise Wrong(f"{len(theirs)} frames of the kernel and {len(ours)} of ringtap aren't the same")
+        raise Wrong(
+            f"{len(theirs)} frames of the kernel and {len(ours)} of ringtap aren't the same"
+        )
     numbers = printed.splitlines()[1].split()
     meant = f"send sent {len(theirs)} skipped {skipped(case, given)} stop {stop(case, given)}"
     if " ".join(numbers) != meant:

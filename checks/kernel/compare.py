@@ -1,8 +1,9 @@
 #!/usr/bin/env python3
-"""Compares what a kernel did in a case with what ringtap does: every byte of every block or slot, and every count.
+"""Compares what a kernel did in a case with what ringtap does: every byte of every block or
+slot, and every count.
 
-`FREE` is the list of what may differ, each entry with its row in docs/kernel.md and with what the kernel's bytes have to be
-instead. Nothing else may differ.
+`FREE` is the list of what may differ, each entry with its row in docs/kernel.md and with what
+the kernel's bytes have to be instead. Nothing else may differ.
 """
 from __future__ import annotations
 
@@ -23,7 +24,8 @@ HEADER = {V3: 82, V2: 66}  # the bytes of a packet before its data
 ADDRESS = {V3: 48, V2: 32}  # where its `struct sockaddr_ll` begins
 STATUS = {V3: 20, V2: 0}  # where its status word is
 MILLISECOND = 1_000_000  # in nanoseconds
-DEVICE_BITS = 1 << 3 | 1 << 7 | 1 << 29  # TP_STATUS_CSUMNOTREADY, TP_STATUS_CSUM_VALID, TP_STATUS_TS_SOFTWARE
+# TP_STATUS_CSUMNOTREADY, TP_STATUS_CSUM_VALID, TP_STATUS_TS_SOFTWARE
+DEVICE_BITS = 1 << 3 | 1 << 7 | 1 << 29
 Span = tuple[int, int]  # a place, and how many bytes
 
 
@@ -33,7 +35,8 @@ class Wrong(Exception):
 
 @dataclass
 class Place:
-    """A block or a slot: what the kernel wrote there, what ringtap's has, and what stood there before."""
+    """A block or a slot: what the kernel wrote there, what ringtap's has, and what stood there
+    before."""
 
     name: str
     case: Case
@@ -63,7 +66,8 @@ def private_area(place: Place) -> Iterator[Span]:
 
 
 def gaps(place: Place) -> Iterator[Span]:
-    """The last two bytes of `sll_addr` and what lies between it and the data; behind the data the padding."""
+    """The last two bytes of `sll_addr` and what lies between it and the data; behind the data
+    the padding."""
     version = place.case.version
     for at, need in place.packets():
         yield at + ADDRESS[version] + 18, HEADER[version] - ADDRESS[version] - 18
@@ -74,7 +78,9 @@ def gaps(place: Place) -> Iterator[Span]:
 
 def stale(place: Place, at: int, size: int) -> bool:
     """The kernel leaves what stood there before; ringtap writes zeros."""
-    return place.kernel[at : at + size] == place.before[at : at + size] and not any(place.ours[at : at + size])
+    return place.kernel[at : at + size] == place.before[at : at + size] and not any(
+        place.ours[at : at + size]
+    )
 
 
 def opening(place: Place) -> Iterator[Span]:
@@ -83,7 +89,8 @@ def opening(place: Place) -> Iterator[Span]:
 
 
 def opened_before(place: Place, at: int, _: int) -> bool:
-    """The kernel's time is that of the block's opening: not after the first packet, unless the device gave that one its time."""
+    """The kernel's time is that of the block's opening: not after the first packet, unless the
+    device gave that one its time."""
     first = struct.unpack_from("<I", place.ours, 16)[0]
     by_device = place.word(first + STATUS[V3]) & DEVICE_BITS
     time = struct.unpack_from("<II", place.kernel, at)
@@ -116,14 +123,18 @@ def device_bits(place: Place, at: int, _: int) -> bool:
 
 @dataclass(frozen=True)
 class Free:
-    """What may differ: the row that says so, where it is in a block or a slot, and what the kernel's bytes are there."""
+    """What may differ: the row that says so, where it is in a block or a slot, and what the
+    kernel's bytes are there."""
 
     row: str
     spans: Callable[[Place], Iterator[Span]]
     holds: Callable[[Place, int, int], bool]
 
 
-STALE = "the private area, the 14 bytes before the data, the padding after it, the last 2 bytes of `sll_addr`"
+STALE = (
+    "the private area, the 14 bytes before the data, the padding after it, the last 2 bytes of "
+    "`sll_addr`"
+)
 FREE = [
     Free(STALE, private_area, stale),
     Free(STALE, gaps, stale),
@@ -135,7 +146,8 @@ FREE = [
 
 
 def expected(place: Place, used: set[str]) -> bytes:
-    """What the kernel's bytes have to be: ringtap's, but for those that are free. The rows that were needed go into `used`."""
+    """What the kernel's bytes have to be: ringtap's, but for those that are free. The rows that
+    were needed go into `used`."""
     found = bytearray(place.ours)
     for free in FREE:
         for at, size in free.spans(place):
@@ -159,7 +171,10 @@ def differing(place: Place, used: set[str]) -> list[tuple[int, int, int]]:
     meant = expected(place, used)
     if meant == place.kernel:
         return []
-    return [(at, theirs, ours) for at, (theirs, ours) in enumerate(zip(place.kernel, meant)) if theirs != ours]
+    return [
+        (at, theirs, ours) for at,
+        (theirs, ours) in enumerate(zip(place.kernel, meant)) if theirs != ours
+    ]
 
 
 # ---- ringtap's run
@@ -167,7 +182,8 @@ def differing(place: Place, used: set[str]) -> list[tuple[int, int, int]]:
 
 @dataclass
 class Ran:
-    """What a run of ringtap printed and saved: for each member its blocks or slots, its `count` lines and its sums."""
+    """What a run of ringtap printed and saved: for each member its blocks or slots, its `count`
+    lines and its sums."""
 
     places: list[list[bytes]]
     counts: list[list[list[int]]]
@@ -193,14 +209,20 @@ def captures_of(case: Case, record: Record) -> list[bytes]:
 
 
 def setup_of(case: Case, record: Record, cpus: int) -> str:
-    """The setup of the case. A frame that a CPU sends goes through the transmit queue of its number, which the pair of virtual
-    devices keeps."""
+    """The setup of the case. A frame that a CPU sends goes through the transmit queue of its
+    number, which the pair of virtual devices keeps."""
     request = case.request
-    lines = [f"{word} {getattr(request, word)}" for word in ("block_size", "block_nr", "frame_size", "frame_nr")]
+    lines = [
+        f"{word} {getattr(request, word)}"
+        for word in ("block_size", "block_nr", "frame_size", "frame_nr")
+    ]
     if case.version == V3:
         lines += [f"tov {record.tov}", f"priv {request.priv}", f"features {request.features}"]
     lines += [f"cpu {cpu}.pcap {cpu % QUEUES}" for cpu in range(cpus)]
-    lines += [f"members {case.members}", f"mode {case.mode}", f"key {KEY}", f"mac {RECEIVER_MAC.hex()}", "out out", "dump yes"]
+    lines += [
+        f"members {case.members}", f"mode {case.mode}", f"key {KEY}", f"mac {RECEIVER_MAC.hex()}",
+        "out out", "dump yes"
+    ]
     lines += [f"flag {flag}" for flag in sorted(case.flags)]
     lines += ["filter filter"] if case.program else []
     return "\n".join(lines) + "\n"
@@ -213,7 +235,10 @@ def run_ringtap(program: str, room: Path, case: Case, record: Record) -> Ran:
     (room / "conf").write_text(setup_of(case, record, len(captures)), encoding="ascii")
     (room / "sched").write_text("".join(f"{line}\n" for line in record.did), encoding="ascii")
     if case.program:
-        lines = [str(len(case.program)), *(" ".join(map(str, instruction)) for instruction in case.program)]
+        lines = [
+            str(len(case.program)),
+            *(" ".join(map(str, instruction)) for instruction in case.program)
+        ]
         (room / "filter").write_text("\n".join(lines) + "\n", encoding="ascii")
     command = "replay" if case.version == V3 else "replay2"
     done, why = running.run([program, command, "conf", "sched"], cwd=room, text=True)
@@ -268,20 +293,27 @@ class Tally:
 
     def add(self, other: Tally) -> None:
         self.used |= other.used
-        for name in ("cases", "blocks", "slots", "counts", "bytes", "changes", "changed_counts", "apart", "answers"):
+        for name in (
+            "cases", "blocks", "slots", "counts", "bytes", "changes", "changed_counts", "apart",
+            "answers"
+        ):
             setattr(self, name, getattr(self, name) + getattr(other, name))
 
 
 def places_between(case: Case, record: Record, ran: Ran) -> Iterator[Place]:
     """The blocks or slots, one after another, each with what stood in its memory before."""
     request = case.request
-    blocks, slots = ("block", request.block_nr, request.block_size), ("slot", request.frame_nr, request.frame_size)
+    blocks, slots = ("block", request.block_nr, request.block_size), (
+        "slot", request.frame_nr, request.frame_size
+    )
     word, around, size = blocks if case.version == V3 else slots
     for number, ours in enumerate(ran.places):
         theirs = record.members[number].taken
         memory = [bytes(size)] * min(around, len(theirs))
         for at, (kernel, own) in enumerate(zip(theirs, ours)):
-            yield Place(f"member {number}, {word} {at + 1}", case, record, kernel, own, memory[at % around])
+            yield Place(
+                f"member {number}, {word} {at + 1}", case, record, kernel, own, memory[at % around]
+            )
             memory[at % around] = kernel + memory[at % around][len(kernel) :]
 
 
@@ -289,7 +321,10 @@ def compare_places(case: Case, record: Record, ran: Ran, tally: Tally) -> None:
     for number, ours in enumerate(ran.places):
         theirs = record.members[number].taken
         if len(theirs) != len(ours):
-            raise Wrong(f"member {number}: {len(theirs)} blocks or slots of the kernel, {len(ours)} of ringtap")
+            raise Wrong(
+                f"member {number}: {len(theirs)} blocks or slots of the kernel, {len(ours)} of "
+                "ringtap"
+            )
     for place in places_between(case, record, ran):
         compare_place(place, tally.used)
         notice_change(place, tally)
@@ -301,8 +336,8 @@ def compare_places(case: Case, record: Record, ran: Ran, tally: Tally) -> None:
 
 
 def notice_change(place: Place, tally: Tally) -> None:
-    """One byte of the kernel's, another in each place, is changed: that has to be noticed, unless it lies where something may
-    differ."""
+    """One byte of the kernel's, another in each place, is changed: that has to be noticed,
+    unless it lies where something may differ."""
     at = zlib.crc32(place.name.encode() + place.case.name.encode()) % len(place.kernel)
     if is_noticed(place, at):
         tally.changes += 1
@@ -322,20 +357,33 @@ def compare_counts(case: Case, record: Record, ran: Ran, tally: Tally) -> None:
     for number in range(case.members):
         theirs = record.members[number]
         if theirs.counts[:-1] != ran.counts[number]:
-            raise Wrong(f"member {number}: the statistics are {theirs.counts[:-1]}, and ringtap's {ran.counts[number]}")
+            raise Wrong(
+                f"member {number}: the statistics are {theirs.counts[:-1]}, and ringtap's "
+                f"{ran.counts[number]}"
+            )
         sums = [sum(column) for column in zip(*theirs.counts)] + [len(theirs.taken)]
         if sums != ran.sums[number]:
-            raise Wrong(f"member {number}: packets, drops, freezes and blocks are {sums}, and ringtap's {ran.sums[number]}")
+            raise Wrong(
+                f"member {number}: packets, drops, freezes and blocks are {sums}, and ringtap's "
+                f"{ran.sums[number]}"
+            )
         tally.counts += 3 * len(ran.counts[number]) + 4
 
 
 def check_openings(case: Case, record: Record) -> None:
-    """A block that a time-out opened says a time before its first packet's; one that this packet opened says about the same."""
+    """A block that a time-out opened says a time before its first packet's; one that this packet
+    opened says about the same."""
     for number, by_time_out in case.openings:
         block = record.members[0].taken[number - 1]
-        opened, first = (nanoseconds(block, at) for at in (32, struct.unpack_from("<I", block, 16)[0] + 4))
+        opened, first = (
+            nanoseconds(block, at)
+            for at in (32, struct.unpack_from("<I", block, 16)[0] + 4)
+        )
         if (first - opened > MILLISECOND) != by_time_out:
-            raise Wrong(f"block {number} of the kernel was opened {first - opened} nanoseconds before its first packet")
+            raise Wrong(
+                f"block {number} of the kernel was opened {first - opened} nanoseconds before its "
+                "first packet"
+            )
 
 
 def nanoseconds(data: bytes, at: int) -> int:
@@ -343,9 +391,14 @@ def nanoseconds(data: bytes, at: int) -> int:
     return second * 1_000_000_000 + nano
 
 
-def count_is_noticed(case: Case, record: Record, ran: Ran, member: int, taking: int, at: int) -> bool:
+def count_is_noticed(
+    case: Case, record: Record, ran: Ran, member: int, taking: int, at: int
+) -> bool:
     """Whether one more in one number of the statistics makes a difference."""
-    members = [Member(each.taken, [list(counts) for counts in each.counts]) for each in record.members]
+    members = [
+        Member(each.taken, [list(counts) for counts in each.counts])
+        for each in record.members
+    ]
     members[member].counts[taking][at] += 1
     try:
         compare_counts(case, replace(record, members=members), ran, Tally())
@@ -360,13 +413,16 @@ def notice_counts(case: Case, record: Record, ran: Ran, tally: Tally) -> None:
         for taking, counts in enumerate(found.counts):
             for at in range(len(counts)):
                 if not count_is_noticed(case, record, ran, member, taking, at):
-                    raise Wrong(f"member {member}: nothing notices a change of the statistics that were taken as number {taking + 1}")
+                    raise Wrong(
+                        f"member {member}: nothing notices a change of the statistics that were "
+                        f"taken as number {taking + 1}"
+                    )
                 tally.changed_counts += 1
 
 
 def spoil(case: Case, record: Record, program: str, room: Path) -> tuple[int, int, int]:
-    """Changes each byte of a record, one at a time: how many, how many of them are noticed, and how many of the others lie where
-    something may differ."""
+    """Changes each byte of a record, one at a time: how many, how many of them are noticed, and
+    how many of the others lie where something may differ."""
     ran = run_ringtap(program, room, case, record)
     changed = noticed = free = 0
     for place in places_between(case, record, ran):
@@ -381,10 +437,14 @@ def spoil(case: Case, record: Record, program: str, room: Path) -> tuple[int, in
 
 
 def summary(case: Case, record: Record, places: list[list[bytes]], sums: list[list[int]]) -> str:
-    """A short telling of a run: for each member the status of each block or slot and the frames in it, then packets, drops and
-    freezes. Where a packet has more or less bytes than its frame their number follows."""
+    """A short telling of a run: for each member the status of each block or slot and the frames
+    in it, then packets, drops and freezes. Where a packet has more or less bytes than its frame
+    their number follows."""
     sent = frames_with_times(case, record)
-    frames = {(second, nano): (at, len(untagged(feed.frame))) for at, (second, nano, feed) in enumerate(sent)}
+    frames = {
+        (second, nano): (at, len(untagged(feed.frame))) for at,
+        (second, nano, feed) in enumerate(sent)
+    }
     told = []
     for found, numbers in zip(places, sums):
         blocks = [tell(frames, *read(case, data)) for data in found]
@@ -396,18 +456,25 @@ Packets = list[tuple[tuple[int, int], int]]
 
 
 def tell(frames: dict[tuple[int, int], tuple[int, int]], status: int, packets: Packets) -> str:
-    names = [f"{frames[time][0]}" + (f"={size}" if size != frames[time][1] else "") for time, size in packets]
+    names = [
+        f"{frames[time][0]}" + (f"={size}" if size != frames[time][1] else "") for time,
+        size in packets
+    ]
     return f"{status}[{' '.join(names)}]"
 
 
 def read(case: Case, data: bytes) -> tuple[int, Packets]:
     """The status of a block or a slot, and the time and the number of bytes of each packet."""
     if case.version == V2:
-        return struct.unpack_from("<I", data)[0], [(struct.unpack_from("<II", data, 16), struct.unpack_from("<I", data, 8)[0])]
+        return struct.unpack_from("<I", data)[0], [
+            (struct.unpack_from("<II", data, 16), struct.unpack_from("<I", data, 8)[0])
+        ]
     status, count, at = struct.unpack_from("<III", data, 8)
     packets = []
     for _ in range(count):
-        packets.append((struct.unpack_from("<II", data, at + 4), struct.unpack_from("<I", data, at + 12)[0]))
+        packets.append(
+            (struct.unpack_from("<II", data, at + 4), struct.unpack_from("<I", data, at + 12)[0])
+        )
         at += struct.unpack_from("<I", data, at)[0]
     return status, packets
 
@@ -418,14 +485,19 @@ def both_summaries(case: Case, record: Record, ran: Ran) -> tuple[str, str]:
     kernel = summary(case, record, [member.taken for member in record.members], sums)
     ringtap = summary(case, record, ran.places, ran.sums)
     if kernel == ringtap:
-        found = [line for place in places_between(case, record, ran) for line in differing(place, set())]
+        found = [
+            line
+            for place in places_between(case, record, ran)
+            for line in differing(place, set())
+        ]
         kernel += "".join(f" {at}:{theirs:02x}" for at, theirs, _ in found)
         ringtap += "".join(f" {at}:{ours:02x}" for at, _, ours in found)
     return kernel, ringtap
 
 
 def compare(case: Case, record: Record, program: str, room: Path, tally: Tally) -> None:
-    """Raises Wrong where the kernel and ringtap don't agree, or differ in another way than the case says."""
+    """Raises Wrong where the kernel and ringtap don't agree, or differ in another way than the
+    case says."""
     ran = run_ringtap(program, room, case, record)
     if case.apart is None:
         compare_places(case, record, ran, tally)

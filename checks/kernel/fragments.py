@@ -1,11 +1,12 @@
 #!/usr/bin/env python3
 """What the kernel of this machine puts together of the fragments that the tests of ip_defrag push.
 
-The fragments go to the loopback device by a raw socket, and another raw socket receives the datagram whole, with its
-header. No two of them overlap and none comes twice, so RFC 791 alone says what comes out, and ringtap's own rules play no
-part. Each datagram must have the data and the header fields that the tests compare with. For each it prints the sizes of
-the fragments in bytes, their order, and of what the kernel gives the header's length, the total length, flags and offset,
-the time to live and the SHA-256 of the data; `fragments.txt` has these lines.
+The fragments go to the loopback device by a raw socket, and another raw socket receives the
+datagram whole, with its header. No two of them overlap and none comes twice, so RFC 791 alone
+says what comes out, and ringtap's own rules play no part. Each datagram must have the data and
+the header fields that the tests compare with. For each it prints the sizes of the fragments in
+bytes, their order, and of what the kernel gives the header's length, the total length, flags and
+offset, the time to live and the SHA-256 of the data; `fragments.txt` has these lines.
 """
 from __future__ import annotations
 
@@ -27,7 +28,10 @@ def places(length: int) -> bytes:
 
 def fragment(ident: int, ttl: int, options: bytes, at: int, data: bytes, more: bool) -> bytes:
     size = 20 + len(options)
-    head = struct.pack(">BBHHHBBH", 0x40 + size // 4, 0, size + len(data), ident, at // 8 + 0x2000 * more, ttl, PROTOCOL, 0)
+    head = struct.pack(
+        ">BBHHHBBH", 0x40 + size // 4, 0, size + len(data), ident, at // 8 + 0x2000 * more, ttl,
+        PROTOCOL, 0
+    )
     return head + HERE + HERE + options + data
 
 
@@ -46,7 +50,8 @@ def received(socket_in: socket.socket, ident: int) -> bytes:
             return whole
 
 
-Case = tuple[int, bytes, list[int], tuple[int, ...]]  # the time to live, the options, the sizes and the order of the fragments
+# the time to live, the options, the sizes and the order of the fragments
+Case = tuple[int, bytes, list[int], tuple[int, ...]]
 
 
 def line_of(out: socket.socket, socket_in: socket.socket, ident: int, case: Case) -> str:
@@ -58,7 +63,10 @@ def line_of(out: socket.socket, socket_in: socket.socket, ident: int, case: Case
     try:
         whole = received(socket_in, ident)
     except socket.timeout:
-        return f"no datagram of {sizes} in the order {order} within {SECONDS} seconds: a fragment of it was lost"
+        return (
+            f"no datagram of {sizes} in the order {order} within {SECONDS} seconds: a fragment of "
+            "it was lost"
+        )
     size = (whole[0] & 0xF) * 4
     length, _, flags = struct.unpack(">HHH", whole[2:8])
     told = (size, length, flags, whole[8], whole[size:])
@@ -66,14 +74,22 @@ def line_of(out: socket.socket, socket_in: socket.socket, ident: int, case: Case
     if told != meant:
         return f"{sizes} in the order {order} are put together as another datagram"
     digest = hashlib.sha256(whole[size:]).hexdigest()
-    words = [*map("-".join, (map(str, sizes), map(str, order))), size, length, flags, whole[8], digest]
+    words = [
+        *map("-".join, (map(str, sizes), map(str, order))), size, length, flags, whole[8], digest
+    ]
     return " ".join(map(str, words))
 
 
 def table() -> Iterator[str]:
     """The lines of all datagrams."""
-    cases: list[Case] = [(64, b"", [24, 16, 8, 5], order) for order in itertools.permutations(range(4))]
-    cases += [(119, b"", [256, 196], (0, 1)), (119, b"", [256, 196], (1, 0)), (64, b"", [8, 8, 4], (2, 0, 1))]
+    cases: list[Case] = [
+        (64, b"", [24, 16, 8, 5], order)
+        for order in itertools.permutations(range(4))
+    ]
+    cases += [
+        (119, b"", [256, 196], (0, 1)), (119, b"", [256, 196], (1, 0)),
+        (64, b"", [8, 8, 4], (2, 0, 1))
+    ]
     cases += [(64, b"\x01" * 40, [65472, 3], (1, 0))]
     with (
         socket.socket(socket.AF_INET, socket.SOCK_RAW, socket.IPPROTO_RAW) as out,

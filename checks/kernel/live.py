@@ -1,10 +1,11 @@
 #!/usr/bin/env python3
 """Runs a case beside the kernel of this machine.
 
-Time: the timer of a ring of TPACKET_V3 runs out every `tov` milliseconds from the making of the ring on. All steps between two
-`Tick` have to fall between two such moments with room on both sides; where the machine was too slow for that, or where a timer ran
-out at another moment than planned, the run is disturbed and counts for nothing. It is repeated with a longer `tov`, a bounded
-number of times.
+Time: the timer of a ring of TPACKET_V3 runs out every `tov` milliseconds from the making of the
+ring on. All steps between two `Tick` have to fall between two such moments with room on both
+sides; where the machine was too slow for that, or where a timer ran out at another moment than
+planned, the run is disturbed and counts for nothing. It is repeated with a longer `tov`, a
+bounded number of times.
 """
 from __future__ import annotations
 
@@ -19,13 +20,15 @@ from kernel.sockets import V2 as NUMBER_V2
 from kernel.sockets import V3 as NUMBER_V3
 from kernel.wire import RECEIVER, Wire
 
-TIMEOUTS = (100, 300, 900, 2500)  # milliseconds for each ring and one more, in the first run and in each repeated one
+# milliseconds for each ring and one more, in the first run and in each repeated one
+TIMEOUTS = (100, 300, 900, 2500)
 PAUSE = 0.001  # seconds between two looks at a status word
 GROUPS = iter(range(1, 65_536))
 
 
 class Period:
-    """Between which moments the timers run out; a span before and after each of them belongs to no step."""
+    """Between which moments the timers run out; a span before and after each of them belongs to
+    no step."""
 
     def __init__(self, rings: list[Ring], tov: int) -> None:
         self.tov, self.ticks = tov / 1000, 0
@@ -65,12 +68,16 @@ class Run:
         version = NUMBER_V3 if case.version == V3 else NUMBER_V2
         fields = {**vars(case.request), "tov": self.tov if case.version == V3 else 0}
         for _ in range(case.members):
-            ring = Ring(opened(version, list(case.program) if case.program else None), version, Request(**fields))
+            ring = Ring(
+                opened(version, list(case.program) if case.program else None), version,
+                Request(**fields)
+            )
             self.rings.append(ring)
             ring.start(RECEIVER)
             if case.members > 1 or case.flags:
                 join(ring.sock, group, case.mode, case.flags)
-        if case.mode == "lb":  # its first frame goes to the second that joined, which so is member 0
+        # its first frame goes to the second that joined, which so is member 0
+        if case.mode == "lb":
             self.rings = self.rings[1:] + self.rings[:1]
 
     def close(self) -> None:
@@ -115,7 +122,10 @@ class Run:
             before = len(ring.taken)
             ring.drain()
             for taken in ring.taken[before:]:
-                if self.case.version == V3 and struct.unpack_from("=I", taken.data, 8)[0] & BLK_TMO and not timers:
+                if (
+                    self.case.version == V3 and struct.unpack_from("=I", taken.data, 8)[0] & BLK_TMO
+                    and not timers
+                ):
                     raise Disturbed("a timer ran out at another moment than planned")
 
     def find_kept(self) -> list[int] | None:
@@ -144,8 +154,14 @@ class Run:
             self.tick()
         for member, ring in enumerate(self.rings):
             self.counts[member].append(ring.statistics())
-        members = [Member([taken.data for taken in ring.taken], counts) for ring, counts in zip(self.rings, self.counts)]
-        return Record(self.case.name, os.uname().release, self.wire.index, self.tov, self.did, self.times, members)
+        members = [
+            Member([taken.data for taken in ring.taken], counts) for ring,
+            counts in zip(self.rings, self.counts)
+        ]
+        return Record(
+            self.case.name, os.uname().release, self.wire.index, self.tov, self.did, self.times,
+            members
+        )
 
 
 def kept_by(ring: Ring) -> int:

@@ -1,7 +1,9 @@
 #!/usr/bin/env python3
-"""What a case is: a ring or a group of rings, and what is done to them step by step; and what came of it.
+"""What a case is: a ring or a group of rings, and what is done to them step by step; and what
+came of it.
 
-The same steps are a plan for a kernel (kernel_live.py) and a schedule for ringtap (kernel_compare.py).
+The same steps are a plan for a kernel (kernel_live.py) and a schedule for ringtap
+(kernel_compare.py).
 """
 from __future__ import annotations
 
@@ -46,7 +48,8 @@ Step = Feed | Read | Stats | Tick
 
 @dataclass(frozen=True)
 class Apart:
-    """How a kernel and ringtap differ in a case, each as `summary` of kernel_compare.py tells it, and the row that says so."""
+    """How a kernel and ringtap differ in a case, each as `summary` of kernel_compare.py tells
+    it, and the row that says so."""
 
     row: str
     kernel: str
@@ -69,7 +72,8 @@ class Case:
     cpus: tuple[int, ...] = ()  # where the numbers of the CPUs count
     rows: tuple[str, ...] = ()  # rows of docs/kernel.md that it shows besides
     apart: Apart | None = None
-    openings: tuple[tuple[int, bool], ...] = ()  # blocks by their numbers from 1, and whether a time-out opened them
+    # blocks by their numbers from 1, and whether a time-out opened them
+    openings: tuple[tuple[int, bool], ...] = ()
 
     def where(self) -> tuple[int, ...]:
         """The CPUs that it needs."""
@@ -78,7 +82,8 @@ class Case:
 
 @dataclass
 class Member:
-    """What a kernel handed over at one ring: the bytes of each block or slot in order, and the statistics that were taken."""
+    """What a kernel handed over at one ring: the bytes of each block or slot in order, and the
+    statistics that were taken."""
 
     taken: list[bytes] = field(default_factory=list)
     counts: list[list[int]] = field(default_factory=list)
@@ -93,9 +98,11 @@ class Record:
     index: int  # of the rings' device
     tov: int  # milliseconds
     did: list[str]  # the schedule
-    times: list[list[int]]  # for each frame in the order of its sending the member that kept it, or -1, and its time
+    # for each frame in the order of its sending the member that kept it, or -1, and its time
+    times: list[list[int]]
     members: list[Member]
 
 
 class Disturbed(Exception):
-    """The run doesn't count: something else came between its steps, as a machine that was too busy."""
+    """The run doesn't count: something else came between its steps, as a machine that was too
+    busy."""

@@ -1,13 +1,15 @@
 #!/usr/bin/env python3
-"""Rings of ringtap beside those of a Linux kernel: every byte of every block and slot, and every count of the statistics.
+"""Rings of ringtap beside those of a Linux kernel: every byte of every block and slot, and every
+count of the statistics.
 
-    kernel_rings.py PROGRAM...            compares each program with the kernel of this machine, and with the recording
-    kernel_rings.py --record FOLDER       asks the kernel of this machine, and writes FOLDER/rings.gz
-    kernel_rings.py --list                names the cases, and says what each shows
-    kernel_rings.py --spoil PROGRAM       changes each byte of the recording, one at a time, and counts what is noticed
+    kernel_rings.py PROGRAM...        compares programs with this machine's kernel and the recording
+    kernel_rings.py --record FOLDER   asks this machine's kernel, and writes FOLDER/rings.gz
+    kernel_rings.py --list            names the cases, and says what each shows
+    kernel_rings.py --spoil PROGRAM   changes each byte of the recording, and counts what is noticed
 
-A kernel is asked in network namespaces of this script's own. Where it has no right to make them, or where the kernel is older
-than 6.18, whose timers run otherwise, the recording is compared alone. It has what a kernel gave, and its version.
+A kernel is asked in network namespaces of this script's own. Where it has no right to make them,
+or where the kernel is older than 6.18, whose timers run otherwise, the recording is compared
+alone. It has what a kernel gave, and its version.
 """
 from __future__ import annotations
 
@@ -51,7 +53,8 @@ CASES: list[Shown] = [
     *REQUESTS, *FILTERS, *SENDINGS, *QUESTIONS,
 ]
 BY_NAME = {case.name: case for case in CASES}
-SHOWN_ALONE = {"the other bits of `tp_status`"}  # what may differ and is shown by a question of its own
+# what may differ and is shown by a question of its own
+SHOWN_ALONE = {"the other bits of `tp_status`"}
 Fields = dict[str, Any]  # of a record, as JSON has them
 
 
@@ -70,7 +73,10 @@ def packed(case: Shown, given: Record | list[str]) -> Fields:
 def unpacked(fields: Fields) -> Record | list[str]:
     if "answer" in fields:
         return fields["answer"]
-    members = [Member([bytes.fromhex(data) for data in member["taken"]], member["counts"]) for member in fields["members"]]
+    members = [
+        Member([bytes.fromhex(data) for data in member["taken"]], member["counts"])
+        for member in fields["members"]
+    ]
     return Record(**{**fields, "members": members})
 
 
@@ -136,7 +142,10 @@ class Asker:
 
     def ask_all(self, names: list[str], attempt: int) -> Iterator[tuple[str, Fields]]:
         """Each case's record. A case that was disturbed is tried again, with longer time-outs."""
-        answers: list[tuple[str, AsyncResult]] = [(name, self.pool.apply_async(ask, (name, attempt))) for name in names]
+        answers: list[tuple[str, AsyncResult]] = [
+            (name, self.pool.apply_async(ask, (name, attempt)))
+            for name in names
+        ]
         again = []
         for name, answer in answers:
             try:
@@ -171,7 +180,9 @@ def try_wire() -> str | None:
 
 
 def started_pool() -> Pool:
-    return multiprocessing.get_context("fork").Pool(min(WORKERS, len(os.sched_getaffinity(0))), begin_worker)
+    return multiprocessing.get_context("fork").Pool(
+        min(WORKERS, len(os.sched_getaffinity(0))), begin_worker
+    )
 
 
 # ---- comparing
@@ -198,7 +209,9 @@ def judge_all(records: Iterable[Fields], program: str, room: Path) -> tuple[dict
     wrong, total = {}, Tally()
     with ThreadPoolExecutor(WORKERS) as threads:
         try:
-            for name, why, tally in threads.map(lambda fields: judge(fields, program, room), records):
+            for name, why, tally in threads.map(
+                lambda fields: judge(fields, program, room), records
+            ):
                 total.add(tally)
                 if why:
                     wrong[name] = why
@@ -210,14 +223,15 @@ def judge_all(records: Iterable[Fields], program: str, room: Path) -> tuple[dict
 
 def told(tally: Tally) -> str:
     return (
-        f"{tally.cases} cases agree, {tally.blocks} blocks and {tally.slots} slots in each of {tally.bytes} bytes, and "
+        f"{tally.cases} cases agree, {tally.blocks} blocks and {tally.slots} slots in each of "
+        f"{tally.bytes} bytes, and "
         f"{tally.counts} counts; {tally.apart} differ as told; {tally.answers} answers"
     )
 
 
 def compare_live(programs: list[str], room: Path) -> int:
-    """Asks the kernel and compares each program with it. A case that is wrong is asked once more, with long time-outs: what came in
-    between need not show. Wrong twice is wrong."""
+    """Asks the kernel and compares each program with it. A case that is wrong is asked once
+    more, with long time-outs: what came in between need not show. Wrong twice is wrong."""
     failures = 0
     with started_pool() as pool:
         asker = Asker(pool)
@@ -235,30 +249,45 @@ def compare_live(programs: list[str], room: Path) -> int:
     if suspects:
         print(f"asked twice: {', '.join(suspects)}")
     for why in sorted(set(asker.unjudged.values())):
-        print(f"not judged, {why}: {', '.join(name for name, said in asker.unjudged.items() if said == why)}")
+        print(
+            f"not judged, {why}: "
+            f"{', '.join(name for name, said in asker.unjudged.items() if said == why)}"
+        )
     return failures
 
 
 def not_shown(tally: Tally) -> list[str]:
     """What may differ and differs nowhere in the recording, and what it says nothing of."""
     unused = {free.row for free in FREE} - tally.used - SHOWN_ALONE
-    return [f"nothing of the recording differs by '{row}'" for row in sorted(unused)] + unsaid(tally)
+    return [
+        f"nothing of the recording differs by '{row}'"
+        for row in sorted(unused)
+    ] + unsaid(tally)
 
 
 def compare_recorded(program: str, room: Path) -> int:
-    """Compares a program with the recording. It has to have every case, and each thing that may differ has to differ somewhere."""
+    """Compares a program with the recording. It has to have every case, and each thing that may
+    differ has to differ somewhere."""
     records = read_recording(HERE / RECORDING)
     names = {fields["case"] for fields in records}
     complaints = [f"{name}: the recording lacks it" for name in BY_NAME if name not in names]
-    complaints += [f"{name}: recorded, but there is no such case" for name in names if name not in BY_NAME]
-    wrong, tally = judge_all([fields for fields in records if fields["case"] in BY_NAME], program, room)
+    complaints += [
+        f"{name}: recorded, but there is no such case"
+        for name in names if name not in BY_NAME
+    ]
+    wrong, tally = judge_all(
+        [fields for fields in records if fields["case"] in BY_NAME], program, room
+    )
     complaints += [f"{name}, recorded, {program}: {why}" for name, why in wrong.items()]
     complaints += not_shown(tally)
     for line in complaints:
         print(line)
     kernels = ", ".join(sorted({fields["kernel"] for fields in records}))
     print(f"{program} beside the recorded kernel, {kernels}: {told(tally)}")
-    print(f"changed and noticed: {tally.changes} bytes of {tally.blocks + tally.slots} blocks and slots, {tally.changed_counts} counts")
+    print(
+        f"changed and noticed: {tally.changes} bytes of {tally.blocks + tally.slots} blocks and "
+        f"slots, {tally.changed_counts} counts"
+    )
     return len(complaints)
 
 
@@ -292,7 +321,9 @@ def spoil_all(program: str, room: Path) -> int:
         case, given = BY_NAME[fields["case"]], unpacked(fields)
         if isinstance(case, Case) and isinstance(given, Record) and case.apart is None:
             counts = [a + b for a, b in zip(counts, spoil(case, given, program, room))]
-    print("changed {}, noticed {}, of the others in a place where something may differ {}".format(*counts))
+    print(
+        "changed {}, noticed {}, of the others where something may differ {}".format(*counts)
+    )
     return counts[0] - counts[1] - counts[2]
 
 

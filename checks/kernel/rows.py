@@ -1,5 +1,6 @@
 #!/usr/bin/env python3
-"""Whether docs/kernel.md and the cases name each other: its tables have a column of the cases that show a row."""
+"""Whether docs/kernel.md and the cases name each other: its tables have a column of the cases
+that show a row."""
 from __future__ import annotations
 
 import re
@@ -20,7 +21,10 @@ Rows = dict[str, list[str]]
 
 def read_rows() -> Rows:
     """The cells of each row, by the first one."""
-    lines = [line for line in DOCUMENT.read_text(encoding="utf-8").splitlines() if line.startswith("| ")]
+    lines = [
+        line
+        for line in DOCUMENT.read_text(encoding="utf-8").splitlines() if line.startswith("| ")
+    ]
     cells = [[cell.strip() for cell in line.strip("|").split(" | ")] for line in lines]
     return {row[0]: row for row in cells}
 
@@ -38,10 +42,12 @@ def named(cells: list[str]) -> list[str]:
 
 
 def compare_rows(cases: Sequence[Shown], free: list[str]) -> list[str]:
-    """What is wrong: a row that a case shows and that isn't there or doesn't name it, a name of no case, and what was tried on a
-    kernel and has nothing that shows it."""
+    """What is wrong: a row that a case shows and that isn't there or doesn't name it, a name of
+    no case, and what was tried on a kernel and has nothing that shows it."""
     rows = read_rows()
-    return [*lacking(rows, cases, free), *unknown(rows, {case.name for case in cases}), *unshown(rows)]
+    return [
+        *lacking(rows, cases, free), *unknown(rows, {case.name for case in cases}), *unshown(rows)
+    ]
 
 
 def lacking(rows: Rows, cases: Sequence[Shown], free: list[str]) -> Iterator[str]:
@@ -51,21 +57,28 @@ def lacking(rows: Rows, cases: Sequence[Shown], free: list[str]) -> Iterator[str
                 yield f"docs/kernel.md has no row '{row}', which {case.name} shows"
             elif case.name not in named(rows[row]):
                 yield f"docs/kernel.md: the row '{row}' doesn't name {case.name}"
-    yield from (f"docs/kernel.md has no row '{row}', by which something may differ" for row in set(free) - set(rows))
+    yield from (
+        f"docs/kernel.md has no row '{row}', by which something may differ"
+        for row in set(free) - set(rows)
+    )
 
 
 def unknown(rows: Rows, names: set[str]) -> Iterator[str]:
     for row, cells in rows.items():
         if row != "Point":
-            yield from (f"docs/kernel.md: '{row}' names {name}, which is no case" for name in named(cells) if name not in names)
+            yield from (
+                f"docs/kernel.md: '{row}' names {name}, which is no case"
+                for name in named(cells) if name not in names
+            )
 
 
 def unsaid(tally: Tally) -> list[str]:
     """The figures of a comparison that the document doesn't say."""
     text = " ".join(DOCUMENT.read_text(encoding="utf-8").split())
     figures = (
-        f"all {tally.cases} cases", f"{tally.blocks} blocks and {tally.slots} slots", f"each byte of {tally.bytes:,}",
-        f"{tally.counts:,} numbers", f"{tally.apart} cases show", f"{tally.answers} answers",
+        f"all {tally.cases} cases", f"{tally.blocks} blocks and {tally.slots} slots",
+        f"each byte of {tally.bytes:,}", f"{tally.counts:,} numbers", f"{tally.apart} cases show",
+        f"{tally.answers} answers",
     )
     return [f"docs/kernel.md doesn't say '{figure}'" for figure in figures if figure not in text]
 

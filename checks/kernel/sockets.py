@@ -1,8 +1,9 @@
 #!/usr/bin/env python3
-"""The kernel's rings: packet sockets with a ring in memory that this process shares with the kernel.
+"""The kernel's rings: packet sockets with a ring in memory that this process shares with the
+kernel.
 
-Numbers and places are those of linux/if_packet.h and linux/filter.h. What the kernel hands over is copied as soon as its status
-word says so, and given back when the plan says.
+Numbers and places are those of linux/if_packet.h and linux/filter.h. What the kernel hands over
+is copied as soon as its status word says so, and given back when the plan says.
 """
 from __future__ import annotations
 
@@ -16,7 +17,9 @@ from dataclasses import dataclass
 
 ETH_P_ALL = 3
 SOL_PACKET, SO_ATTACH_FILTER = 263, 26
-RX_RING, STATISTICS, COPY_THRESH, VERSION, RESERVE, TX_RING, LOSS, FANOUT = 5, 6, 7, 10, 12, 13, 14, 18
+RX_RING, STATISTICS, COPY_THRESH, VERSION, RESERVE, TX_RING, LOSS, FANOUT = (
+    5, 6, 7, 10, 12, 13, 14, 18
+)
 V2, V3 = 1, 2  # the values of PACKET_VERSION
 KERNEL, USER, BLK_TMO = 0, 1, 32
 MODES = {"hash": 0, "lb": 1, "cpu": 2, "rollover": 3, "qm": 5}
@@ -39,7 +42,10 @@ class Request:
 
     def packed(self, version: int) -> bytes:
         sizes = struct.pack("=4I", self.block_size, self.block_nr, self.frame_size, self.frame_nr)
-        return sizes if version < V3 else sizes + struct.pack("=3I", self.tov, self.priv, self.features)
+        return (
+            sizes if version < V3
+            else sizes + struct.pack("=3I", self.tov, self.priv, self.features)
+        )
 
 
 def attach(sock: socket.socket, program: list[Instruction]) -> None:
@@ -47,7 +53,9 @@ def attach(sock: socket.socket, program: list[Instruction]) -> None:
     text = b"".join(struct.pack("=HBBI", *instruction) for instruction in program)
     memory = mmap.mmap(-1, max(len(text), 1))
     memory.write(text)
-    sock.setsockopt(socket.SOL_SOCKET, SO_ATTACH_FILTER, struct.pack("@HP", len(program), address_of(memory)))
+    sock.setsockopt(
+        socket.SOL_SOCKET, SO_ATTACH_FILTER, struct.pack("@HP", len(program), address_of(memory))
+    )
 
 
 def address_of(memory: mmap.mmap) -> int:
@@ -71,7 +79,8 @@ def join(sock: socket.socket, group: int, mode: str, flags: frozenset[str]) -> N
 
 @dataclass
 class Taken:
-    """What was handed over at one place: its bytes, and when it was first seen (seconds of the monotonic clock)."""
+    """What was handed over at one place: its bytes, and when it was first seen (seconds of the
+    monotonic clock)."""
 
     data: bytes
     seen: float
@@ -110,7 +119,10 @@ class Ring:
     def drain(self) -> bool:
         """Copies all that was handed over since the last time. Whether there was something."""
         before = len(self.taken)
-        while len(self.taken) < self.released + self.places and self.word(self.status_at(len(self.taken))) & USER:
+        while (
+            len(self.taken) < self.released + self.places
+            and self.word(self.status_at(len(self.taken))) & USER
+        ):
             at = self.at(len(self.taken))
             self.taken.append(Taken(self.memory[at : at + self.length(at)], time.monotonic()))
         return len(self.taken) > before
@@ -128,7 +140,8 @@ class Ring:
             return False
         struct.pack_into("=I", self.memory, self.status_at(self.released), KERNEL)
         self.released += 1
-        select.select([self.sock], [], [], 0)  # as a reader that waits: the kernel then forgets that the ring was short of room
+        # as a reader that waits: the kernel then forgets that the ring was short of room
+        select.select([self.sock], [], [], 0)
         return True
 
     def open_block(self) -> int | None:
@@ -146,7 +159,9 @@ class Ring:
     def statistics(self) -> list[int]:
         """Packets, drops and freezes since they were last asked for; TPACKET_V2 has no freezes."""
         size = 12 if self.version == V3 else 8
-        numbers = struct.unpack(f"={size // 4}I", self.sock.getsockopt(SOL_PACKET, STATISTICS, size))
+        numbers = struct.unpack(
+            f"={size // 4}I", self.sock.getsockopt(SOL_PACKET, STATISTICS, size)
+        )
         return [*numbers, 0][:3]
 
     def close(self) -> None:

@@ -1,5 +1,6 @@
-"""Rings of ringtap beside those of the kernel of this machine, and beside what a kernel gave that was recorded: each byte of each
-block and slot, and each count. The kernel is asked in network namespaces that are gone with the processes that made them."""
+"""Rings of ringtap beside those of the kernel of this machine, and beside what a kernel gave
+that was recorded: each byte of each block and slot, and each count. The kernel is asked in
+network namespaces that are gone with the processes that made them."""
 from __future__ import annotations
 
 import functools
@@ -54,5 +55,6 @@ def test_live(program: Path, room: Path) -> None:
 
 @pytest.mark.needs("raw sockets")
 def test_fragments() -> None:
-    """The kernel of this machine puts the fragments of ip_defrag's tests together as the tests say."""
+    """The kernel of this machine puts the fragments of ip_defrag's tests together as the tests
+    say."""
     assert list(fragments.table()) == (rings.HERE / "fragments.txt").read_text().splitlines()

@@ -1,9 +1,11 @@
 #!/usr/bin/env python3
-"""A network of this process's own: a namespace with a pair of virtual Ethernet devices, and nothing else in it.
+"""A network of this process's own: a namespace with a pair of virtual Ethernet devices, and
+nothing else in it.
 
-The namespace has no name, so it and its devices are gone when the process ends, however it ends. Frames go in at one device and
-come out of the other, on the CPU that sends them. A witness, the first socket of the receiving device and so the last that gets a
-frame, says when a frame has been through all rings.
+The namespace has no name, so it and its devices are gone when the process ends, however it ends.
+Frames go in at one device and come out of the other, on the CPU that sends them. A witness, the
+first socket of the receiving device and so the last that gets a frame, says when a frame has
+been through all rings.
 """
 from __future__ import annotations
 
@@ -17,7 +19,9 @@ from pathlib import Path
 CLONE_NEWUSER, CLONE_NEWNET = 0x10000000, 0x40000000
 NLM_REQUEST, NLM_ACK, NLM_CREATE, NLM_EXCL = 1, 4, 0x400, 0x200
 NEW_LINK, NLMSG_ERROR = 16, 2
-IFLA_ADDRESS, IFLA_IFNAME, IFLA_MTU, IFLA_LINKINFO, IFLA_TX_QUEUES, IFLA_RX_QUEUES = 1, 3, 4, 18, 31, 32
+IFLA_ADDRESS, IFLA_IFNAME, IFLA_MTU, IFLA_LINKINFO, IFLA_TX_QUEUES, IFLA_RX_QUEUES = (
+    1, 3, 4, 18, 31, 32
+)
 INFO_KIND, INFO_DATA, VETH_PEER = 1, 2, 1
 SIOCGIFFLAGS, SIOCSIFFLAGS, IFF_UP = 0x8913, 0x8914, 1
 ETH_P_ALL = 3
@@ -41,15 +45,17 @@ def unshare(flags: int) -> None:
 
 
 def enter_namespace() -> None:
-    """Goes into a new network namespace; without the right to make one into that of a new user namespace, in which this user is
-    root."""
+    """Goes into a new network namespace; without the right to make one into that of a new user
+    namespace, in which this user is root."""
     try:
         unshare(CLONE_NEWNET)
         return
     except NoRight:
         user, group = os.getuid(), os.getgid()
     unshare(CLONE_NEWUSER | CLONE_NEWNET)
-    for name, text in (("setgroups", "deny"), ("uid_map", f"0 {user} 1"), ("gid_map", f"0 {group} 1")):
+    for name, text in (
+        ("setgroups", "deny"), ("uid_map", f"0 {user} 1"), ("gid_map", f"0 {group} 1")
+    ):
         Path("/proc/self", name).write_text(text, encoding="ascii")
 
 
@@ -74,7 +80,9 @@ def make_pair() -> None:
     with socket.socket(socket.AF_NETLINK, socket.SOCK_RAW, 0) as route:
         route.send(struct.pack("=IHHII", 16 + len(body), NEW_LINK, flags, 1, 0) + body)
         answer = route.recv(4096)
-    kind_of_answer, fault = struct.unpack_from("=H", answer, 4)[0], struct.unpack_from("=i", answer, 16)[0]
+    kind_of_answer, fault = struct.unpack_from("=H", answer, 4)[0], struct.unpack_from(
+        "=i", answer, 16
+    )[0]
     if kind_of_answer != NLMSG_ERROR or fault:
         raise NoRight(f"virtual Ethernet devices can't be made ({os.strerror(-fault)})")
 
@@ -87,7 +95,8 @@ def bring_up(name: str) -> None:
 
 
 def silence() -> None:
-    """Keeps the kernel from sending frames of its own: with IPv6 each device would look for neighbours."""
+    """Keeps the kernel from sending frames of its own: with IPv6 each device would look for
+    neighbours."""
     for path in Path("/proc/sys/net/ipv6/conf").glob("*/disable_ipv6"):
         path.write_text("1", encoding="ascii")
 
@@ -146,7 +155,8 @@ class Wire:
             self.cpu = cpu
 
     def send(self, frame: bytes) -> None:
-        """Sends a frame. It is received on the same CPU, and goes by the transmit queue of the CPU's number."""
+        """Sends a frame. It is received on the same CPU, and goes by the transmit queue of the
+        CPU's number."""
         self.out.send(frame)
 
     def seen(self) -> bytes:

@@ -1,11 +1,13 @@
 #!/usr/bin/env python3
-"""Makes docs/definitions.md: which definitions the contract of `run` reaches, by crate and module of specs/.
+"""Makes docs/definitions.md: which definitions the contract of `run` reaches, by crate and
+module of specs/.
 
     definitions.py             the status is 1 where the page isn't what the sources give
     definitions.py --write     writes the page anew
 
-A definition reaches another where its text has the other's name and its module imports that name. The names of the contract of
-`run` are where it begins. A type of the code counts as reached, and what its `impl Model` names with it.
+A definition reaches another where its text has the other's name and its module imports that
+name. The names of the contract of `run` are where it begins. A type of the code counts as
+reached, and what its `impl Model` names with it.
 """
 from __future__ import annotations
 
@@ -21,7 +23,9 @@ PAGE = TOP / "docs" / "definitions.md"
 CALLS, CALL = TOP / "crates/tap_engine/src/calls.rt", "pub fn run<"
 IMPORT = re.compile(r"^\s*(?:ghost )?use Rattle\.(\w+)\.specs\.([\w.]+)\.\{([^}]*)\}", re.M)
 ALIAS = re.compile(r"^\s*(?:ghost )?use Rattle\.(\w+)\.specs\.([\w.]+) as (\w+)$", re.M)
-HEAD = re.compile(r"^( *)(?:abbrev |unfoldable )?(?:pub )(?:abbrev |record |unfoldable |data )?([^\s:({]+)", re.M)
+HEAD = re.compile(
+    r"^( *)(?:abbrev |unfoldable )?(?:pub )(?:abbrev |record |unfoldable |data )?([^\s:({]+)", re.M
+)
 NAME = re.compile(r"[^\s(){}\[\].,;:]+")
 
 Place = tuple[str, str]  # a crate and a module of it; a module of types begins with `declared.`
@@ -29,7 +33,8 @@ Place = tuple[str, str]  # a crate and a module of it; a module of types begins 
 
 @dataclass
 class Module:
-    """A file: the sentence at its head, where its imported names and modules come from, and the texts of its definitions."""
+    """A file: the sentence at its head, where its imported names and modules come from, and the
+    texts of its definitions."""
 
     sentence: str
     imports: dict[str, Place] = field(default_factory=dict)
@@ -55,9 +60,14 @@ def without_comments(text: str, mark: str) -> str:
 
 
 def texts_of(text: str) -> dict[str, str]:
-    """The definitions of a module that stand at its outermost level, or within an unnamed module, each with its text."""
+    """The definitions of a module that stand at its outermost level, or within an unnamed
+    module, each with its text."""
     found = {}
-    heads = [it for it in HEAD.finditer(text) if len(it[1]) <= 2 and (len(it[1]) == 0 or "module _" in text[: it.start()])]
+    heads = [
+        it
+        for it in HEAD.finditer(text)
+        if len(it[1]) <= 2 and (len(it[1]) == 0 or "module _" in text[: it.start()])
+    ]
     tops = [it for it in heads if not re.match(r" +pub [a-z_]+ :", text[it.start() :])]
     for at, it in enumerate(tops):
         end = tops[at + 1].start() if at + 1 < len(tops) else len(text)
@@ -68,10 +78,15 @@ def texts_of(text: str) -> dict[str, str]:
 def module_of(path: Path) -> Module:
     text = path.read_text(encoding="utf-8")
     head = re.match(r"(?:--.*\n)+", text)
-    words = " ".join(line.removeprefix("--").strip() for line in head[0].splitlines()) if head else ""
+    words = (
+        " ".join(line.removeprefix("--").strip() for line in head[0].splitlines()) if head else ""
+    )
     sentence = re.match(r".*?(?:[.](?=\s|$)|$)", words)
     bare = without_comments(text, "--")
-    return Module(sentence[0] if sentence else "", imports_of(bare), aliases_of(bare), texts_of(re.sub(r"(?m)^use .*", "", bare)))
+    return Module(
+        sentence[0] if sentence else "", imports_of(bare), aliases_of(bare),
+        texts_of(re.sub(r"(?m)^use .*", "", bare))
+    )
 
 
 def modules() -> dict[Place, Module]:
@@ -86,20 +101,28 @@ def modules() -> dict[Place, Module]:
 
 
 def model_of(crate: str, module: str) -> Module | None:
-    """What the `impl Model` of a type of the code names. The type's file is found by the first word of its module."""
+    """What the `impl Model` of a type of the code names. The type's file is found by the first
+    word of its module."""
     path = TOP / "crates" / crate / "src" / f"{module.split('.')[1]}.rt"
     if not path.is_file():
         return None
-    blocks = re.findall(r"^impl.* Model for .*?^}", without_comments(path.read_text(encoding="utf-8"), "//"), re.M | re.S)
+    blocks = re.findall(
+        r"^impl.* Model for .*?^}", without_comments(path.read_text(encoding="utf-8"), "//"),
+        re.M | re.S
+    )
     text = "\n".join(blocks)
-    return Module("", imports_of(text), aliases_of(text), {"Model": re.sub(r"(?m)^\s*ghost use .*", "", text)})
+    return Module(
+        "", imports_of(text), aliases_of(text), {"Model": re.sub(r"(?m)^\s*ghost use .*", "", text)}
+    )
 
 
 def contract() -> Module:
     """The clauses of `run`, with the imports of its file."""
     text = without_comments(CALLS.read_text(encoding="utf-8"), "//")
     begin = text.index(CALL)
-    return Module("", imports_of(text), aliases_of(text), {"run": text[begin : text.index("\n{", begin)]})
+    return Module(
+        "", imports_of(text), aliases_of(text), {"run": text[begin : text.index("\n{", begin)]}
+    )
 
 
 def reached(known: dict[Place, Module]) -> dict[Place, set[str]]:
@@ -121,7 +144,10 @@ def reached(known: dict[Place, Module]) -> dict[Place, set[str]]:
     return found
 
 
-def follow(place: Place, word: str, known: dict[Place, Module], found: dict[Place, set[str]], types: set[Place]) -> list[tuple[Module, str]]:
+def follow(
+    place: Place, word: str, known: dict[Place, Module], found: dict[Place, set[str]],
+    types: set[Place]
+) -> list[tuple[Module, str]]:
     """What is still to be looked into once a definition, or a type of the code, is reached."""
     if place[1].startswith("declared."):
         if place in types:
@@ -139,18 +165,22 @@ def page() -> str:
     known = modules()
     found = {place: names for place, names in reached(known).items() if names}
     lines = [
-        "# The definitions",
-        "",
-        "Made by `python3 checks/definitions.py --write`; `checks/outside/test_documents.py` says where it is out of date.",
+        "# The definitions", "",
+        "Made by `python3 checks/definitions.py --write`; `checks/outside/test_documents.py` says "
+        "where it is out of date.",
         "",
         *wrapped(
-            "Contracts say that the code does what the definitions in the crates' `specs/` say: functions and records over plain lists "
-            "and whole numbers, each under one sentence. You have to believe them, and nothing else of a proof. Places and sizes are in "
-            "bytes, times in nanoseconds or milliseconds; blocks count from 1, CPUs, members, frames and instructions from 0."
+            "Contracts say that the code does what the definitions in the crates' `specs/` say: "
+            "functions and records over plain lists "
+            "and whole numbers, each under one sentence. You have to believe them, and nothing "
+            "else of a proof. Places and sizes are in "
+            "bytes, times in nanoseconds or milliseconds; blocks count from 1, CPUs, members, "
+            "frames and instructions from 0."
         ),
         "",
         *wrapped(
-            f"The contract of `run` reaches {sum(map(len, found.values()))} definitions in {len(found)} of {len(known)} modules. Read "
+            f"The contract of `run` reaches {sum(map(len, found.values()))} definitions in "
+            f"{len(found)} of {len(known)} modules. Read "
             "those; the others are for a crate's own contracts, laws and proofs."
         ),
     ]
@@ -163,23 +193,34 @@ def page() -> str:
 
 def wrapped(text: str) -> list[str]:
     """A paragraph, or an item of a list, in lines of at most 100 columns."""
-    return textwrap.wrap(text, 100, subsequent_indent="  " * text.startswith("- "), break_long_words=False, break_on_hyphens=False)
+    return textwrap.wrap(
+        text, 100, subsequent_indent="  " * text.startswith("- "), break_long_words=False,
+        break_on_hyphens=False
+    )
 
 
 def order_of(crate: str) -> int:
     """Where a crate stands in crates.txt, which has the lowest first."""
-    names = [line.partition(":")[0].strip() for line in (TOP / "crates.txt").read_text(encoding="utf-8").splitlines()]
+    names = [
+        line.partition(":")[0].strip()
+        for line in (TOP / "crates.txt").read_text(encoding="utf-8").splitlines()
+    ]
     return names.index(crate)
 
 
 def main() -> None:
-    words = argparse.ArgumentParser(description=__doc__, formatter_class=argparse.RawDescriptionHelpFormatter)
+    words = argparse.ArgumentParser(
+        description=__doc__, formatter_class=argparse.RawDescriptionHelpFormatter
+    )
     words.add_argument("--write", action="store_true", help="write the page anew")
     text = page()
     if words.parse_args().write:
         PAGE.write_text(text, encoding="utf-8")
     elif not PAGE.is_file() or PAGE.read_text(encoding="utf-8") != text:
-        sys.exit("docs/definitions.md isn't what the sources give: `python3 checks/definitions.py --write` makes it anew")
+        sys.exit(
+            "docs/definitions.md isn't what the sources give: `python3 checks/definitions.py "
+            "--write` makes it anew"
+        )
     print(f"definitions: {text.count(chr(10) + '- ')} modules that `run` reaches")
 
 

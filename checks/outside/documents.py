@@ -1,6 +1,7 @@
-"""Whether the documents say what the program does: each word, status and line that the sources can print stands in docs/reference.md;
-each link of a document leads somewhere; each name of code that README, guarantees or a crate's README cites is in the sources; and each
-command of a document prints what stands below it."""
+"""Whether the documents say what the program does: each word, status and line that the sources
+can print stands in docs/reference.md; each link of a document leads somewhere; each name of code
+that README, guarantees or a crate's README cites is in the sources; and each command of a
+document prints what stands below it."""
 from __future__ import annotations
 
 import os
@@ -19,7 +20,8 @@ Found = tuple[int, list[str]]  # how many things were looked at, and what is wro
 Look = Callable[[], Found]
 Step = tuple[str, list[str]]  # a command, and the lines that are shown below it
 
-# Where the program's words come from: a file, and what finds them there, each group a word or a line.
+# Where the program's words come from: a file, and what finds them there, each group a word or a
+# line.
 WORDS: list[tuple[str, str, set[str]]] = [
     ("setup_text/src/setup_error.rt", r'=> "(\w+)"', {"memory"}),
     ("setup_text/src/text_error.rt", r'=> "(\w+)"', {"memory"}),
@@ -55,7 +57,9 @@ def source(name: str) -> str:
 
 def shown(text: str) -> str:
     """What a document shows as code: in backticks, in indented lines and in fenced blocks."""
-    blocks = re.findall(r"^```.*?\n(.*?)^```", text, re.M | re.S) + re.findall(r"^    .*$", text, re.M)
+    blocks = re.findall(r"^```.*?\n(.*?)^```", text, re.M | re.S) + re.findall(
+        r"^    .*$", text, re.M
+    )
     return "\n".join(re.findall(r"`([^`\n]+)`", text) + blocks).replace("\\|", "|")
 
 
@@ -66,25 +70,31 @@ def stands(phrase: str, document: str) -> bool:
 
 
 def printable(text: str) -> Iterator[tuple[str, str, set[str], str, Callable[[str], object]]]:
-    """What the sources can print: where it stands, what finds it there, what of that is never printed, what it is, and whether the
-    reference, whose text this is, has it."""
+    """What the sources can print: where it stands, what finds it there, what of that is never
+    printed, what it is, and whether the reference, whose text this is, has it."""
     document = shown(text)
     for name, pattern, never in WORDS:
         yield name, pattern, never, "the word", lambda word: re.search(rf"\b{word}\b", document)
     for name, pattern in LINES:
         yield name, pattern, set(), "the line", lambda phrase: stands(phrase, document)
-    yield STATUSES, STATUS, set(), "the status", lambda number: re.search(rf"^\| {number} \| ", text, re.M)
+    yield STATUSES, STATUS, set(), "the status", lambda number: re.search(
+        rf"^\| {number} \| ", text, re.M
+    )
     for name in ENDINGS:
         yield name, r'"(\.[a-z.]+)"', set(), "the file", lambda ending: ending in document
 
 
 def words() -> Found:
-    """The words, lines, statuses and files of the sources that the reference lacks, and the sources in which none is found."""
+    """The words, lines, statuses and files of the sources that the reference lacks, and the
+    sources in which none is found."""
     found, wrong = 0, list[str]()
     for name, pattern, never, what, has in printable(REFERENCE.read_text(encoding="utf-8")):
         texts = sorted(set(re.findall(pattern, source(name))) - never)
         found += len(texts)
-        wrong += [f"docs/reference.md lacks {what} '{text}' of {name}" for text in texts if not has(text)]
+        wrong += [
+            f"docs/reference.md lacks {what} '{text}' of {name}"
+            for text in texts if not has(text)
+        ]
         if not texts:
             wrong.append(f"{name} has nothing that {pattern} finds, so nothing of it is looked for")
     return found, wrong
@@ -139,9 +149,13 @@ def links() -> Found:
 
 
 def known_names() -> set[str]:
-    """Each name that stands in the sources, the scripts, the list of crates, or as a kernel's in the reference."""
+    """Each name that stands in the sources, the scripts, the list of crates, or as a kernel's in
+    the reference."""
     names: set[str] = set()
-    for pattern in ("crates/*/src/**/*.rt", "crates/*/specs/**/*.antt", "crates/*/must-fail/*", "checks/**/*", "bench/*", "demo/*", "tools/**/*", "crates.txt", "docs/reference.md"):
+    for pattern in (
+        "crates/*/src/**/*.rt", "crates/*/specs/**/*.antt", "crates/*/must-fail/*", "checks/**/*",
+        "bench/*", "demo/*", "tools/**/*", "crates.txt", "docs/reference.md"
+    ):
         for path in TOP.glob(pattern):
             names.add(path.stem)
             if path.suffix in {".rt", ".antt", ".py", ".sh", ".txt", ".bash", ".c", ".md"}:
@@ -154,13 +168,20 @@ def names() -> Found:
     known = known_names()
     wrong = []
     found = 0
-    for path in [TOP / "README.md", TOP / "docs/guarantees.md", *sorted((TOP / "crates").glob("*/README.md"))]:
+    for path in [
+        TOP / "README.md", TOP / "docs/guarantees.md", *sorted((TOP / "crates").glob("*/README.md"))
+    ]:
         text = path.read_text(encoding="utf-8")
         for block in re.findall(r"^```rust\n(.*?)^```", text, re.M | re.S):
-            for name in re.findall(r"\b(\w+)(?=\(|::)|\b([A-Z]\w*[a-z]\w*)", re.sub(r"//.*", "", block)):
+            for name in re.findall(
+                r"\b(\w+)(?=\(|::)|\b([A-Z]\w*[a-z]\w*)", re.sub(r"//.*", "", block)
+            ):
                 found += 1
                 if (name[0] or name[1]) not in known:
-                    wrong.append(f"{path.relative_to(TOP)}: {name[0] or name[1]}, in an example, is no name of the sources")
+                    wrong.append(
+                        f"{path.relative_to(TOP)}: {name[0] or name[1]}, in an example, is no name "
+                        "of the sources"
+                    )
         text = re.sub(r"^```.*?^```", "", text, flags=re.M | re.S)
         for cited in re.findall(r"`([A-Za-z_][\w:.]*)`", text):
             if re.search(r"\.(md|rt|antt|py|sh|txt|edit|pcap|blk|sched|ddd)$", cited):
@@ -177,7 +198,11 @@ def names() -> Found:
 
 def steps(text: str) -> list[Step]:
     """The commands of a document, each with the lines that are shown below it."""
-    return [step for block in re.findall(r"^```console\n(.*?)^```", text, re.M | re.S) for step in steps_of(block)]
+    return [
+        step
+        for block in re.findall(r"^```console\n(.*?)^```", text, re.M | re.S)
+        for step in steps_of(block)
+    ]
 
 
 def steps_of(block: str) -> list[Step]:
@@ -201,7 +226,10 @@ def steps_of(block: str) -> list[Step]:
 
 def agrees(printed: str, expected: list[str]) -> bool:
     """Whether lines are those that are expected; `...` stands for any lines."""
-    pattern = "".join(r"(?:.*\n)*?" if line == "..." else re.escape(line) + "\n" for line in expected)
+    pattern = "".join(
+        r"(?:.*\n)*?" if line == "..." else re.escape(line) + "\n"
+        for line in expected
+    )
     return re.fullmatch(pattern, printed) is not None
 
 
@@ -209,8 +237,15 @@ def differs(command: str, expected: list[str], room: str, program: str) -> str |
     """What is wrong with what a command prints on standard output, if something is."""
     path = f"{pathlib.Path(program).resolve().parent}:{os.environ['PATH']}"
     environment = {**os.environ, "PATH": path, "LC_ALL": "C.UTF-8", "TZ": "UTC"}
-    done, why = running.run(["bash", "-c", command], cwd=room, env=environment, stdin=subprocess.DEVNULL)
+    done, why = running.run(
+        ["bash", "-c", command], cwd=room, env=environment, stdin=subprocess.DEVNULL
+    )
     if done is None:
         return why
-    printed, complained = done.stdout.decode("utf-8", "replace"), done.stderr.decode("utf-8", "replace")
-    return None if agrees(printed, expected) else f"it printed\n{printed}{complained}in place of\n" + "\n".join(expected)
+    printed, complained = done.stdout.decode("utf-8", "replace"), done.stderr.decode(
+        "utf-8", "replace"
+    )
+    return (
+        None if agrees(printed, expected)
+        else f"it printed\n{printed}{complained}in place of\n" + "\n".join(expected)
+    )

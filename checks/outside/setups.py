@@ -1,4 +1,5 @@
-"""The texts that the tables of docs/reference.md and refused_texts.md show, each with what a program has to answer to it."""
+"""The texts that the tables of docs/reference.md and refused_texts.md show, each with what a
+program has to answer to it."""
 from __future__ import annotations
 
 import re
@@ -68,7 +69,8 @@ def number_in(cell: str, word: str) -> int:
 
 @dataclass(frozen=True)
 class Asked:
-    """Words for the program, the files that they name, and what it has to answer: its status and what it prints."""
+    """Words for the program, the files that they name, and what it has to answer: its status and
+    what it prints."""
 
     words: tuple[str, ...]
     files: Texts
@@ -79,7 +81,9 @@ class Asked:
 def checked(status: int, printed: str, lines: list[str], end: str = "\n", **texts: bytes) -> Asked:
     """What `check` says to a setup of these lines."""
     files = {f"{name}.txt": text for name, text in texts.items()}
-    return Asked(("check", "conf"), {"conf": (end.join(lines) + end).encode(), **files}, status, printed)
+    return Asked(
+        ("check", "conf"), {"conf": (end.join(lines) + end).encode(), **files}, status, printed
+    )
 
 
 def read_document(*paths: Path) -> str:
@@ -111,11 +115,14 @@ def measured() -> Iterator[tuple[str, Asked]]:
     yield "a text of the greatest length", checked(0, "ok\n", [front + comment], "")
     yield "a text above it", checked(2, "setup line 0: too_large\n", [front + comment + "#"], "")
     yield "a name of 255 bytes", checked(0, "ok\n", NEED + ["out " + "n" * 255])
-    yield "a name of 256 bytes", checked(2, "setup line 6: bad_number\n", NEED + ["out " + "n" * 256])
+    yield "a name of 256 bytes", checked(
+        2, "setup line 6: bad_number\n", NEED + ["out " + "n" * 256]
+    )
 
 
 def refused() -> Iterator[tuple[str, Asked]]:
-    """The lines that are refused after what is needed, and the rings, each before the line of a CPU."""
+    """The lines that are refused after what is needed, and the rings, each before the line of a
+    CPU."""
     for cell, answer in rows_below(TEXT, LINES_HEAD):
         yield cell, checked(2, line_of("setup", answer), NEED + lines_of(cell))
     for cell, answer in rows_below(TEXT, RINGS_HEAD):
@@ -129,7 +136,9 @@ def refused_by_commands() -> Iterator[tuple[str, Asked]]:
     for command, cell, answer, setup in lines + rings:
         word = lines_of(command)[0]
         words = (word, "conf", "sched") if word == "replay2" else (word, "conf")
-        yield f"{command} {cell}", Asked(words, {"conf": ("\n".join(setup) + "\n").encode()}, 2, line_of("setup", answer))
+        yield f"{command} {cell}", Asked(
+            words, {"conf": ("\n".join(setup) + "\n").encode()}, 2, line_of("setup", answer)
+        )
 
 
 def other_texts() -> Iterator[tuple[str, Asked]]:
@@ -141,6 +150,8 @@ def other_texts() -> Iterator[tuple[str, Asked]]:
         elif cell.startswith("filter"):
             yield cell, checked(3, line_of("filter", answer), NEED + ["filter f.txt"], f=text)
         else:
-            cpus, members = ["cpu b.pcap"] * (number_in(cell, "CPUs") - 1), f"members {number_in(cell, 'members')}"
+            cpus, members = ["cpu b.pcap"] * (
+                number_in(cell, "CPUs") - 1
+            ), f"members {number_in(cell, 'members')}"
             files = {"conf": ("\n".join([*NEED, *cpus, members]) + "\n").encode(), "sched": text}
             yield cell, Asked(("replay", "conf", "sched"), files, 3, line_of("schedule", answer))

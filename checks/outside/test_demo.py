@@ -1,4 +1,5 @@
-"""The demo prints and saves what stands in demo/expected, which the second program works out; and its scripts build and run."""
+"""The demo prints and saves what stands in demo/expected, which the second program works out;
+and its scripts build and run."""
 from __future__ import annotations
 
 import os
@@ -13,8 +14,8 @@ from places import TOP
 from second import program as second_program
 
 EXPECTED = TOP / "demo" / "expected"
-# An `rt` that proves nothing: it marks the libraries as proved and copies the program that there is, or runs it as `rt try` would, in
-# the crate's folder.
+# An `rt` that proves nothing: it marks the libraries as proved and copies the program that there
+# is, or runs it as `rt try` would, in the crate's folder.
 FAKE_RT = r"""#!/usr/bin/env bash
 top=../..
 if [ "$1" = try ]; then
@@ -68,7 +69,9 @@ def copy(room: Path, first_program: Path) -> Path:
 
 def script(copy: Path, program: Path, *words: str) -> subprocess.CompletedProcess:
     """A script of demo/ in the copy."""
-    environment = {**os.environ, "PATH": f"{copy}/fake:{os.environ['PATH']}", "PROGRAM": str(program)}
+    environment = {
+        **os.environ, "PATH": f"{copy}/fake:{os.environ['PATH']}", "PROGRAM": str(program)
+    }
     done, why = running.run(["sh", *words], cwd=copy, env=environment, text=True)
     assert done is not None, why
     return done
@@ -97,7 +100,8 @@ def test_an_unproved_try(name: str, copy: Path, first_program: Path) -> None:
 
 
 def test_build(copy: Path, first_program: Path) -> None:
-    """It says how far it is, makes a link to the program, and what is built isn't tried unproved."""
+    """It says how far it is, makes a link to the program, and what is built isn't tried
+    unproved."""
     done = script(copy, first_program, "demo/build.sh")
     assert done.returncode == 0, done.stderr
     assert " libraries are proved" in done.stderr and " min so far\n" in done.stderr

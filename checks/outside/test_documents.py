@@ -1,6 +1,7 @@
-"""The documents: each word, line and status of the program is in docs/reference.md, each command of README.md and docs/guide.md prints
-what stands below it, links lead somewhere, names of code are names of the sources, and docs/definitions.md and the table of crates in
-CONTRIBUTING.md are what they give."""
+"""The documents: each word, line and status of the program is in docs/reference.md, each command
+of README.md and docs/guide.md prints what stands below it, links lead somewhere, names of code
+are names of the sources, and docs/definitions.md and the table of crates in CONTRIBUTING.md are
+what they give."""
 from __future__ import annotations
 
 import shutil
@@ -28,7 +29,8 @@ def test_definitions() -> None:
 
 def test_crates_above() -> None:
     """`python3 checks/crates_above.py --write` makes the table anew."""
-    done = subprocess.run([sys.executable, "-B", TOP / "checks/crates_above.py"], cwd=TOP, capture_output=True, text=True)
+    words = [sys.executable, "-B", TOP / "checks/crates_above.py"]
+    done = subprocess.run(words, cwd=TOP, capture_output=True, text=True)
     assert done.returncode == 0, done.stdout + done.stderr
 
 
@@ -43,7 +45,8 @@ def test_commands(name: str, program: Path, room: Path) -> None:
         shutil.copytree(TOP / part, here / part, symlinks=True)
     shutil.copy(program, here / "bin/ringtap")
     (here / "bin/ringtap").chmod(0o755)
-    for folder in (here, here / "try"):  # tcpdump gives up its rights before it writes, where root runs it
+    # tcpdump gives up its rights before it writes, where root runs it
+    for folder in (here, here / "try"):
         folder.chmod(0o777)
     folder = here if name == "README.md" else here / "try"
     commands = documents.steps((TOP / name).read_text(encoding="utf-8"))

@@ -1,6 +1,8 @@
-"""Real files, folders, devices and pipes: each fault of the outside gives its status and its line, and no crash.
+"""Real files, folders, devices and pipes: each fault of the outside gives its status and its
+line, and no crash.
 
-Root reads every file, so where root runs these tests the program runs as nobody, if that can be had.
+Root reads every file, so where root runs these tests the program runs as nobody, if that can be
+had.
 """
 from __future__ import annotations
 
@@ -38,13 +40,17 @@ as_nobody = NOBODY if os.getuid() == 0 and rights.lack("another user") is None e
 
 
 def setup(capture: str, *more: str) -> str:
-    lines = ["block_size 4096", "block_nr 2", "frame_size 2048", "frame_nr 4", f"cpu {capture}", *more]
+    lines = [
+        "block_size 4096", "block_nr 2", "frame_size 2048", "frame_nr 4", f"cpu {capture}", *more
+    ]
     return "".join(f"{line}\n" for line in lines)
 
 
 def roomy(capture: str, *more: str) -> str:
     """A setup whose ring holds the whole demo, so that nothing hangs on which thread goes first."""
-    return setup(capture, *more).replace("4096", "65536").replace("block_nr 2", "block_nr 4").replace("frame_nr 4", "frame_nr 128")
+    return setup(capture, *more).replace("4096", "65536").replace(
+        "block_nr 2", "block_nr 4"
+    ).replace("frame_nr 4", "frame_nr 128")
 
 
 @dataclass
@@ -57,7 +63,8 @@ class Run:
 
 @dataclass
 class Store:
-    """A folder with a setup, a schedule and a capture that are in order, in which the program runs."""
+    """A folder with a setup, a schedule and a capture that are in order, in which the program
+    runs."""
 
     path: Path
     program: Path
@@ -93,7 +100,10 @@ class Store:
 
     def status_into(self, output: object, *words: str, **how: object) -> int:
         """The status of a run whose standard output this is."""
-        done = subprocess.run([*as_nobody, self.program, *words], cwd=self.path, stdout=output, stderr=subprocess.PIPE, timeout=600, **how)
+        done = subprocess.run(
+            [*as_nobody, self.program, *words], cwd=self.path, stdout=output,
+            stderr=subprocess.PIPE, timeout=600, **how
+        )
         return done.returncode
 
     def replay(self) -> Run:
@@ -187,7 +197,9 @@ def test_captures_that_cant_be_read(store: Store, name: str) -> None:
     assert len(store.read("out.0.pcap")) == 24
 
 
-@pytest.mark.parametrize(("name", "end"), [("/dev/null", "truncated 0"), ("/dev/zero", "bad_magic 0")])
+@pytest.mark.parametrize(
+    ("name", "end"), [("/dev/null", "truncated 0"), ("/dev/zero", "bad_magic 0")]
+)
 def test_captures_of_devices(store: Store, name: str, end: str) -> None:
     store.write("conf", setup(name))
     assert store.replay() == Run(FAULT.replace("fault", end), 4)
@@ -232,7 +244,9 @@ def test_a_capture_without_end(endless: Store) -> None:
 
 
 def test_a_capture_without_end_sent(endless: Store) -> None:
-    assert endless.run("send", "conf") == Run("cpu 0 frames 127 end too_large 33554432\nsend sent 0 skipped 0 stop 0\n", 4)
+    assert endless.run("send", "conf") == Run(
+        "cpu 0 frames 127 end too_large 33554432\nsend sent 0 skipped 0 stop 0\n", 4
+    )
 
 
 def test_a_capture_without_end_on_threads(endless: Store) -> None:
@@ -246,7 +260,9 @@ def test_files_that_come_one_byte_at_a_time(store: Store) -> None:
     for name, source in (("slow_conf", "conf"), ("slow_sched", "sched"), ("slow_in", "in.pcap")):
         os.mkfifo(store.path / name)
         store.give(store.path / name)
-        threading.Thread(target=drip, args=(store.path / name, store.read(source)), daemon=True).start()
+        threading.Thread(
+            target=drip, args=(store.path / name, store.read(source)), daemon=True
+        ).start()
     assert store.run("replay", "slow_conf", "slow_sched") == Run(store.whole, 0)
     assert store.read("out.0.pcap") == store.output
 
@@ -319,7 +335,9 @@ def test_a_pipe_without_a_reader(store: Store) -> None:
     assert store.read("out.0.pcap") == store.output
 
 
-@pytest.mark.parametrize("line", ["replay conf sched", "replay none sched", "replay conf ticks", "no command"])
+@pytest.mark.parametrize(
+    "line", ["replay conf sched", "replay none sched", "replay conf ticks", "no command"]
+)
 def test_standard_output_that_takes_nothing(store: Store, line: str) -> None:
     """It is full, or closed."""
     store.write("ticks", "tick 2\ntick 1\n")
@@ -359,7 +377,10 @@ def test_the_signal_of_a_limit_for_files(store: Store) -> None:
 @pytest.mark.needs("mounts")
 def test_a_small_file_system(store: Store) -> None:
     (store.path / "small").mkdir()
-    subprocess.run(["mount", "-t", "tmpfs", "-o", "size=4k,mode=777", "none", "small"], cwd=store.path, check=True)
+    subprocess.run(
+        ["mount", "-t", "tmpfs", "-o", "size=4k,mode=777", "none", "small"], cwd=store.path,
+        check=True
+    )
     try:
         store.conf("out small/out", "dump yes")
         assert store.replay() == Run(store.whole, 6)
@@ -373,7 +394,10 @@ def test_a_small_file_system(store: Store) -> None:
 
 def interrupted(store: Store, room: Path, **times: int) -> Run:
     """A replay whose opens, reads and writes are interrupted so many times in a row."""
-    words = ["cc", "-shared", "-fPIC", "-o", room / "interrupt.so", Path(__file__).parent / "interrupt.c", "-ldl"]
+    words = [
+        "cc", "-shared", "-fPIC", "-o", room / "interrupt.so",
+        Path(__file__).parent / "interrupt.c", "-ldl"
+    ]
     subprocess.run(words, check=True)
     settings = {name: str(count) for name, count in times.items()}
     done, why = running.run(
@@ -386,7 +410,8 @@ def interrupted(store: Store, room: Path, **times: int) -> Run:
 
 @pytest.mark.needs("cc")
 def test_interrupted_calls(store: Store, room: Path) -> None:
-    """Calls that signals interrupt 15 times in a row, and writes that take half: the run is as without them."""
+    """Calls that signals interrupt 15 times in a row, and writes that take half: the run is as
+    without them."""
     assert interrupted(store, room, OPENS=15, READS=15, WRITES=15) == Run(store.whole, 0)
     assert store.read("out.0.pcap") == store.output
 
@@ -464,7 +489,9 @@ def test_an_output_with_the_name_of_the_capture(store: Store) -> None:
 
 
 def keeps_inputs(store: Store, *words: str) -> tuple[bool, str]:
-    done = subprocess.run(["sh", TOP / "demo/keep_inputs.sh", *words], cwd=store.path, capture_output=True, text=True)
+    done = subprocess.run(
+        ["sh", TOP / "demo/keep_inputs.sh", *words], cwd=store.path, capture_output=True, text=True
+    )
     return done.returncode == 0, done.stdout
 
 
@@ -511,11 +538,18 @@ def test_a_name_of_256_bytes_in_the_setup(store: Store) -> None:
     assert store.replay() == Run("setup line 5: bad_number\n", 2)
 
 
-@pytest.mark.parametrize("words", [
-    [], ["replay", "conf"], ["replay", "conf", "sched", "sched"], ["replay", "", "sched"], ["replay", "conf", ""], ["record", "conf"],
-    ["--help"],
-    *([command, *rest] for command in ("check", "send", "make", "capture") for rest in ([], ["conf", "sched"], [""])),
-])
+@pytest.mark.parametrize(
+    "words",
+    [
+        [], ["replay", "conf"], ["replay", "conf", "sched", "sched"], ["replay", "", "sched"],
+        ["replay", "conf", ""], ["record", "conf"], ["--help"],
+        *(
+            [command, *rest]
+            for command in ("check", "send", "make", "capture")
+            for rest in ([], ["conf", "sched"], [""])
+        ),
+    ]
+)
 def test_arguments_that_are_no_command(store: Store, words: list[str]) -> None:
     assert store.run(*words) == Run(USAGE, 1)
 
@@ -533,7 +567,8 @@ def test_a_name_in_utf8(store: Store) -> None:
 
 
 def test_long_names_as_arguments(store: Store) -> None:
-    """Names of 404 and of 70,004 bytes: an argument is read into buffers that double until one holds it."""
+    """Names of 404 and of 70,004 bytes: an argument is read into buffers that double until one
+    holds it."""
     assert store.run("replay", "./" * 200 + "conf", "sched") == Run(store.whole, 0)
     assert store.read("out.0.pcap") == store.output
     assert store.run("replay", "./" * 35_000 + "conf", "sched") == Run("read fault\n", 5)
@@ -589,13 +624,18 @@ def test_a_send_whose_standard_output_is_full(store: Store) -> None:
 
 
 def test_a_make_of_captures_that_arent_there(store: Store, monkeypatch: pytest.MonkeyPatch) -> None:
-    store.write("conf", setup("none", "make 1 100", "cpu none", "ticks none", "members 2", "out made"))
+    store.write(
+        "conf", setup("none", "make 1 100", "cpu none", "ticks none", "members 2", "out made")
+    )
     run = store.run("make", "conf")
     monkeypatch.chdir(store.path)
     lines, files = worked_out("make", "conf")
     assert run == Run(lines, 0)
     assert {name: store.read(name) for name in files} == files
-    assert [line for line in lines.splitlines() if line.endswith(" frames 50 arrivals 50 end ok")] == lines.splitlines()[:2]
+    assert [
+        line
+        for line in lines.splitlines() if line.endswith(" frames 50 arrivals 50 end ok")
+    ] == lines.splitlines()[:2]
 
 
 def test_a_make_with_a_filter_that_isnt_there(store: Store) -> None:

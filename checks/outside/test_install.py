@@ -1,4 +1,5 @@
-"""install.sh puts program, tools, man pages, completion and documents in place, and they work there from any folder."""
+"""install.sh puts program, tools, man pages, completion and documents in place, and they work
+there from any folder."""
 from __future__ import annotations
 
 import os
@@ -16,13 +17,19 @@ import running
 from conftest import new_room
 from places import PROGRAMS, TOP
 
-TOOLS = [f"ringtap-{name}" for name in ("blocks", "busiest", "lost", "ring-of", "run", "schedule", "size", "timeline")]
+TOOLS = [
+    f"ringtap-{name}"
+    for name in ("blocks", "busiest", "lost", "ring-of", "run", "schedule", "size", "timeline")
+]
 PAGES = ["ringtap", *TOOLS]
 
 
 def install(program: Path, *words: object) -> subprocess.CompletedProcess:
     environment = {**os.environ, "RINGTAP": str(program)}
-    return subprocess.run(["sh", TOP / "install.sh", *words], env=environment, capture_output=True, text=True, check=False)
+    return subprocess.run(
+        ["sh", TOP / "install.sh", *words], env=environment, capture_output=True, text=True,
+        check=False
+    )
 
 
 @dataclass(frozen=True)
@@ -33,7 +40,9 @@ class Installed:
     folder: Path
 
     def run(self, name: str, *words: str, **how: object) -> subprocess.CompletedProcess:
-        done, why = running.run([self.prefix / "bin" / name, *words], cwd=self.folder, text=True, **how)
+        done, why = running.run(
+            [self.prefix / "bin" / name, *words], cwd=self.folder, text=True, **how
+        )
         assert done is not None, why
         return done
 
@@ -48,7 +57,9 @@ def installed() -> Iterator[Installed]:
         shutil.copytree(TOP / "demo", room / "demo")
         (room / "else").mkdir()
         shutil.copy(TOP / "demo/lo.pcap", room / "else")
-        (room / "else/small.txt").write_text((TOP / "demo/small.txt").read_text().replace("demo/", ""))
+        (room / "else/small.txt").write_text(
+            (TOP / "demo/small.txt").read_text().replace("demo/", "")
+        )
         yield Installed(room / "prefix", room / "else")
 
 
@@ -71,7 +82,8 @@ def test_tools_are_installed(installed: Installed) -> None:
 
 @pytest.mark.parametrize("name", TOOLS)
 def test_a_tool_says_its_version_and_help(name: str, installed: Installed) -> None:
-    """Help within 79 columns, with an example; the tool runs where python3 takes nothing from the environment."""
+    """Help within 79 columns, with an example; the tool runs where python3 takes nothing from
+    the environment."""
     assert re.match(rf"{name} \(ringtap\) [0-9]", installed.run(name, "--version").stdout)
     words = [sys.executable, "-I", "-B", installed.prefix / "bin" / name, "--help"]
     done = subprocess.run(words, cwd=installed.folder, capture_output=True, text=True, check=True)
@@ -92,7 +104,10 @@ def test_a_man_page_has_its_date_and_version(name: str, installed: Installed) ->
 @pytest.mark.needs("mandoc")
 @pytest.mark.parametrize("name", PAGES)
 def test_mandoc_takes_a_page(name: str, installed: Installed) -> None:
-    done = subprocess.run(["mandoc", "-T", "lint", "-W", "warning", page(installed, name)], capture_output=True, text=True, check=False)
+    done = subprocess.run(
+        ["mandoc", "-T", "lint", "-W", "warning", page(installed, name)], capture_output=True,
+        text=True, check=False
+    )
     assert (done.stdout + done.stderr, done.returncode) == ("", 0)
 
 
@@ -101,7 +116,9 @@ def test_mandoc_takes_a_page(name: str, installed: Installed) -> None:
 def test_groff_takes_a_page(name: str, installed: Installed) -> None:
     """Bold letters come out as a letter, a backspace and the letter again."""
     words = ["groff", "-man", "-Tascii", "-ww", page(installed, name)]
-    done = subprocess.run(words, capture_output=True, text=True, check=True, env={**os.environ, "GROFF_NO_SGR": "1"})
+    done = subprocess.run(
+        words, capture_output=True, text=True, check=True, env={**os.environ, "GROFF_NO_SGR": "1"}
+    )
     assert done.stderr == ""
     if name == "ringtap":
         assert "ringtap replay CONF SCHED" in re.sub(".\b", "", done.stdout)
@@ -113,13 +130,19 @@ def test_the_program(installed: Installed) -> None:
 
 
 # Each tool finds the installed program, and the reference beside it.
-@pytest.mark.parametrize(("words", "pattern"), [
-    ("ringtap-lost small.txt ../demo/schedule.txt", r"^  0 *45-52 *8 "),
-    ("ringtap-timeline small.txt ../demo/schedule.txt", r"frame 17 doesn't fit: block 1 is retired, block 2 is opened"),
-    ("ringtap-schedule small.txt --tick 0", r"\A(feed 0\n){52}"),
-    ("ringtap-blocks ../demo/expected/group/group.0.blk --short", r"^4 blocks, 40 packets"),
-    ("ringtap-size small.txt --block-nr 2,64", r""),
-])
+@pytest.mark.parametrize(
+    ("words", "pattern"),
+    [
+        ("ringtap-lost small.txt ../demo/schedule.txt", r"^  0 *45-52 *8 "),
+        (
+            "ringtap-timeline small.txt ../demo/schedule.txt",
+            r"frame 17 doesn't fit: block 1 is retired, block 2 is opened"
+        ),
+        ("ringtap-schedule small.txt --tick 0", r"\A(feed 0\n){52}"),
+        ("ringtap-blocks ../demo/expected/group/group.0.blk --short", r"^4 blocks, 40 packets"),
+        ("ringtap-size small.txt --block-nr 2,64", r""),
+    ]
+)
 def test_a_tool_runs(words: str, pattern: str, installed: Installed) -> None:
     done = installed.run(*words.split())
     assert done.returncode == 0, done.stderr
@@ -129,19 +152,30 @@ def test_a_tool_runs(words: str, pattern: str, installed: Installed) -> None:
 def test_the_reference_is_found(installed: Installed) -> None:
     """A refused filter is explained by its row."""
     (installed.folder / "bad.ddd").write_text("1\n6 0 1\n")
-    (installed.folder / "bad.txt").write_text((installed.folder / "small.txt").read_text() + "filter bad.ddd\n")
+    (installed.folder / "bad.txt").write_text(
+        (installed.folder / "small.txt").read_text() + "filter bad.ddd\n"
+    )
     done = installed.run("ringtap-run", "check", "bad.txt")
     assert done.returncode == 3
     assert re.search(r'^bad\.ddd, line 2: "6 0 1": .*; ', done.stderr, re.M), done.stderr
 
 
 # The words so far, the last of which is being written, and what bash offers.
-OFFERED = [(["ringtap", "re"], "replay replay2"), (["ringtap", "replay", "demo/sm"], "demo/small.txt"), (["ringtap", "check", "a", "demo/sm"], "")]
+OFFERED = [
+    (["ringtap", "re"], "replay replay2"), (["ringtap", "replay", "demo/sm"], "demo/small.txt"),
+    (["ringtap", "check", "a", "demo/sm"], "")
+]
 
 
 @pytest.mark.parametrize(("words", "offered"), OFFERED)
 def test_completion(words: list[str], offered: str, installed: Installed) -> None:
-    script = 'source "$0"; COMP_WORDS=("$@"); COMP_CWORD=$(($# - 1)); _ringtap ringtap "${!#}"; echo "${COMPREPLY[*]}"'
+    script = (
+        'source "$0"; COMP_WORDS=("$@"); COMP_CWORD=$(($# - 1)); _ringtap ringtap "${!#}"; echo '
+        '"${COMPREPLY[*]}"'
+    )
     completion = installed.prefix / "share/bash-completion/completions/ringtap"
-    done = subprocess.run(["bash", "-c", script, completion, *words], cwd=TOP, capture_output=True, text=True, check=True)
+    done = subprocess.run(
+        ["bash", "-c", script, completion, *words], cwd=TOP, capture_output=True, text=True,
+        check=True
+    )
     assert done.stdout == offered + "\n"

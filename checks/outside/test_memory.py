@@ -1,8 +1,10 @@
-"""Refuses each request for memory of a run in turn: of a check, of a replay with a dump, of one over slots, of a few frames that are
-made, of a capture that is sent, and of captures on threads, without a pool of workers and with one. Every such run ends, with status 7,
-or with the status, the lines and the files of a run with ample memory; what it saved before status 7 is what that run saves; and no
-thread is left. On threads the number of a request may be another one at each run; what the runs here give is the same. Then each thread
-in turn can't be started: such a run gives what every other gives."""
+"""Refuses each request for memory of a run in turn: of a check, of a replay with a dump, of one
+over slots, of a few frames that are made, of a capture that is sent, and of captures on threads,
+without a pool of workers and with one. Every such run ends, with status 7, or with the status,
+the lines and the files of a run with ample memory; what it saved before status 7 is what that
+run saves; and no thread is left. On threads the number of a request may be another one at each
+run; what the runs here give is the same. Then each thread in turn can't be started: such a run
+gives what every other gives."""
 from __future__ import annotations
 
 import os
@@ -23,8 +25,9 @@ pytestmark = pytest.mark.needs("cc")
 TWO = "cpu a.pcap\nmembers 2\nfilter pass.ddd\nticks ticks.txt\n"
 # The words of a run, and how many requests it makes at least.
 RUNS = [
-    ("check two.txt", 10), ("replay setup.txt schedule.txt", 20), ("replay2 setup.txt schedule.txt", 20), ("make make.txt", 20),
-    ("send setup.txt", 20), ("capture setup.txt", 20), ("capture two.txt", 20), ("capture pool.txt", 20),
+    ("check two.txt", 10), ("replay setup.txt schedule.txt", 20),
+    ("replay2 setup.txt schedule.txt", 20), ("make make.txt", 20), ("send setup.txt", 20),
+    ("capture setup.txt", 20), ("capture two.txt", 20), ("capture pool.txt", 20),
 ]
 
 
@@ -47,12 +50,21 @@ class Refusing:
     def run(self, words: str, **refused: int) -> Ended:
         for old in [*self.path.glob("out.*"), self.path / "told", self.path / "left"]:
             old.unlink(missing_ok=True)
-        preload = {"LD_PRELOAD": f"{self.path}/refuse.so", "TOLD": f"{self.path}/told", "LEFT": f"{self.path}/left"}
-        environment = {**os.environ, **(preload if refused else {}), **{name: str(number) for name, number in refused.items()}}
+        preload = {
+            "LD_PRELOAD": f"{self.path}/refuse.so", "TOLD": f"{self.path}/told",
+            "LEFT": f"{self.path}/left"
+        }
+        environment = {
+            **os.environ, **(preload if refused else {}),
+            **{name: str(number) for name, number in refused.items()}
+        }
         done, why = running.run([self.program, *words.split()], cwd=self.path, env=environment)
         assert done is not None, f"{refused}: {why}"
         assert not (self.path / "left").exists(), f"{refused}: a thread is left"
-        return Ended(done.returncode, done.stdout.decode(), {path.name: path.read_bytes() for path in self.path.glob("out.*")})
+        return Ended(
+            done.returncode, done.stdout.decode(),
+            {path.name: path.read_bytes() for path in self.path.glob("out.*")}
+        )
 
     def each(self, words: str, what: str) -> Iterator[tuple[int, Ended]]:
         """The run with each request of a kind refused, by its number, until none is."""
@@ -72,8 +84,9 @@ def refusing(room: Path, program: Path) -> Refusing:
     shutil.copytree(TOP / "crates/ringtap/data", room, dirs_exist_ok=True)
     setup = (room / "setup.txt").read_text() + "dump yes\n"
     for name, text in {
-        "setup.txt": setup, "make.txt": setup + "make 1 3\n", "two.txt": setup + TWO, "pool.txt": setup + TWO + "workers 2\n",
-        "ticks.txt": "1\n2\n", "pass.ddd": "1\n6 0 0 262144\n",
+        "setup.txt": setup, "make.txt": setup + "make 1 3\n", "two.txt": setup + TWO,
+        "pool.txt": setup + TWO + "workers 2\n", "ticks.txt": "1\n2\n",
+        "pass.ddd": "1\n6 0 0 262144\n",
     }.items():
         (room / name).write_text(text)
     return Refusing(room, program)

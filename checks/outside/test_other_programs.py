@@ -1,6 +1,7 @@
-"""What other programs read and write: tcpdump and capinfos open the outputs and count the frames that ringtap says it kept, each of
-which is a frame of the input, in order; and of captures that editcap and mergecap write ringtap saves the times and lengths that tshark
-prints of them, and the bytes that editcap writes."""
+"""What other programs read and write: tcpdump and capinfos open the outputs and count the frames
+that ringtap says it kept, each of which is a frame of the input, in order; and of captures that
+editcap and mergecap write ringtap saves the times and lengths that tshark prints of them, and
+the bytes that editcap writes."""
 from __future__ import annotations
 
 import re
@@ -21,7 +22,8 @@ NANOSECONDS = 1_000_000_000
 
 @pytest.fixture
 def demo(inside: Path) -> Path:
-    """A folder with the demo, in which every user may write, since tcpdump gives up root's rights."""
+    """A folder with the demo, in which every user may write, since tcpdump gives up root's
+    rights."""
     shutil.copytree(TOP / "demo", inside / "demo")
     inside.chmod(0o777)
     return inside
@@ -37,7 +39,9 @@ def run(program: Path, *words: str, status: int = 0) -> str:
 
 def by_tcpdump(name: str, *expression: str) -> list[Frame]:
     """The frames that tcpdump reads in a file and writes, of those that pass a filter."""
-    words = ["tcpdump", "-n", "-r", name, "--time-stamp-precision=nano", "-w", "copy.pcap", *expression]
+    words = [
+        "tcpdump", "-n", "-r", name, "--time-stamp-precision=nano", "-w", "copy.pcap", *expression
+    ]
     subprocess.run(words, capture_output=True, check=True)
     return frames_in("copy.pcap")
 
@@ -52,7 +56,9 @@ def number_in(pattern: str, lines: str) -> int:
 @pytest.mark.parametrize("name", ["setup", "small"])
 def test_tcpdump_reads_a_replay(name: str, program: Path, demo: Path) -> None:
     lines = run(program, "replay", f"demo/{name}.txt", "demo/schedule.txt")
-    kept, drops = number_in(r"^total .* kept (\d+)", lines), number_in(r"^total .* drops (\d+)", lines)
+    kept, drops = number_in(r"^total .* kept (\d+)", lines), number_in(
+        r"^total .* drops (\d+)", lines
+    )
     assert kept > 0
     found, whole = frames_in("out.0.pcap"), frames_in("demo/lo.pcap")
     assert by_tcpdump("out.0.pcap") == found
@@ -66,8 +72,12 @@ def test_tcpdump_reads_a_replay(name: str, program: Path, demo: Path) -> None:
 @pytest.mark.parametrize("name", ["setup", "small"])
 def test_capinfos_reads_a_replay(name: str, program: Path, demo: Path) -> None:
     lines = run(program, "replay", f"demo/{name}.txt", "demo/schedule.txt")
-    said = subprocess.run(["capinfos", "-M", "-c", "-E", "out.0.pcap"], capture_output=True, text=True, check=True).stdout
-    assert number_in(r"^Number of packets: *(\d+)", said) == number_in(r"^total .* kept (\d+)", lines)
+    said = subprocess.run(
+        ["capinfos", "-M", "-c", "-E", "out.0.pcap"], capture_output=True, text=True, check=True
+    ).stdout
+    assert number_in(r"^Number of packets: *(\d+)", said) == number_in(
+        r"^total .* kept (\d+)", lines
+    )
     assert "Ethernet" in said
 
 
@@ -83,14 +93,20 @@ def test_tcpdump_reads_what_is_sent(program: Path, demo: Path) -> None:
 @pytest.mark.parametrize("member", [0, 1])
 def test_tcpdump_takes_made_frames_for_datagrams(member: int, program: Path, demo: Path) -> None:
     lines = run(program, "make", "demo/make.txt")
-    found = by_tcpdump(f"made.{member}.pcap", "udp dst port 53 and src net 10.0.0.0/16 and dst net 10.1.0.0/24")
+    found = by_tcpdump(
+        f"made.{member}.pcap", "udp dst port 53 and src net 10.0.0.0/16 and dst net 10.1.0.0/24"
+    )
     assert len(found) == number_in(rf"^member {member} packets (\d+) drops 0 ", lines)
-    said = subprocess.run(["tcpdump", "-n", "-v", "-r", f"made.{member}.pcap"], capture_output=True, text=True, check=True).stdout
+    said = subprocess.run(
+        ["tcpdump", "-n", "-v", "-r", f"made.{member}.pcap"], capture_output=True, text=True,
+        check=True
+    ).stdout
     assert "bad cksum" not in said
 
 
-# Captures in microseconds and in nanoseconds; frames that were cut; two interfaces of different units; options of packets, and blocks
-# that are skipped; two sections; and the capture that the guide converts.
+# Captures in microseconds and in nanoseconds; frames that were cut; two interfaces of different
+# units; options of packets, and blocks that are skipped; two sections; and the capture that the
+# guide converts.
 WRITTEN: dict[str, list[str]] = {
     "micro.pcapng": ["editcap -F pcapng demo/lo.pcap micro.pcapng"],
     "nano.pcapng": ["editcap -F pcapng nano.pcap nano.pcapng"],
@@ -98,10 +114,12 @@ WRITTEN: dict[str, list[str]] = {
     "merged.pcapng": ["mergecap -F pcapng -w merged.pcapng demo/lo.pcap nano.pcap"],
     "comments.pcapng": [
         "mergecap -F pcapng -w merged.pcapng demo/lo.pcap nano.pcap",
-        "editcap -F pcapng -a 1:first -a 7:seventh --capture-comment all merged.pcapng comments.pcapng",
+        "editcap -F pcapng -a 1:first -a 7:seventh --capture-comment all merged.pcapng "
+        "comments.pcapng",
     ],
     "sections.pcapng": [
-        "editcap -F pcapng demo/lo.pcap micro.pcapng", "editcap -F pcapng nano.pcap nano.pcapng", "cat micro.pcapng nano.pcapng >sections.pcapng",
+        "editcap -F pcapng demo/lo.pcap micro.pcapng", "editcap -F pcapng nano.pcap nano.pcapng",
+        "cat micro.pcapng nano.pcapng >sections.pcapng",
     ],
     "lo.pcapng": [f"{sys.executable} -B demo/samples.py"],
 }
@@ -112,7 +130,9 @@ def written(demo: Path) -> Callable[[str], None]:
     """Writes a capture of the table, with a setup whose ring holds all of it."""
 
     def write(name: str) -> None:
-        for command in ["editcap -F nsecpcap -t 0.000000123 demo/lo.pcap nano.pcap", *WRITTEN[name]]:
+        for command in [
+            "editcap -F nsecpcap -t 0.000000123 demo/lo.pcap nano.pcap", *WRITTEN[name]
+        ]:
             subprocess.run(command, shell=True, capture_output=True, check=True)
         set_up(name)
 
@@ -120,7 +140,9 @@ def written(demo: Path) -> Callable[[str], None]:
 
 
 def set_up(name: str) -> None:
-    Path("conf").write_text(f"block_size 65536\nblock_nr 64\nframe_size 2048\nframe_nr 2048\ncpu {name}\nout out\n")
+    Path("conf").write_text(
+        f"block_size 65536\nblock_nr 64\nframe_size 2048\nframe_nr 2048\ncpu {name}\nout out\n"
+    )
     Path("sched").write_text("")
 
 
@@ -131,16 +153,26 @@ def test_pcapng(name: str, program: Path, written: Callable[[str], None]) -> Non
     run(program, "replay", "conf", "sched")
     found = frames_in("out.0.pcap")
     fields = "-e frame.time_epoch -e frame.cap_len -e frame.len".split()
-    said = subprocess.run(["tshark", "-n", "-r", name, "-T", "fields", *fields], capture_output=True, text=True, check=True).stdout
-    times = [f"{frame.time // NANOSECONDS}.{frame.time % NANOSECONDS:09}\t{len(frame.data)}\t{frame.wire}" for frame in found]
+    said = subprocess.run(
+        ["tshark", "-n", "-r", name, "-T", "fields", *fields], capture_output=True, text=True,
+        check=True
+    ).stdout
+    times = [
+        f"{frame.time // NANOSECONDS}.{frame.time % NANOSECONDS:09}"
+        f"\t{len(frame.data)}\t{frame.wire}"
+        for frame in found
+    ]
     assert said.splitlines() == times != []
-    subprocess.run(["editcap", "-F", "nsecpcap", name, "copy.pcap"], capture_output=True, check=True)
+    subprocess.run(
+        ["editcap", "-F", "nsecpcap", name, "copy.pcap"], capture_output=True, check=True
+    )
     assert frames_in("copy.pcap") == found
 
 
 @pytest.mark.needs("editcap", "mergecap", "tshark")
 def test_a_pcapng_that_is_cut(program: Path, written: Callable[[str], None]) -> None:
-    """A packet in a capture that ends within its block: Wireshark calls it cut short, and so does ringtap."""
+    """A packet in a capture that ends within its block: Wireshark calls it cut short, and so
+    does ringtap."""
     written("micro.pcapng")
     Path("short.pcapng").write_bytes(Path("micro.pcapng").read_bytes()[:-1])
     set_up("short.pcapng")

@@ -1,5 +1,6 @@
-"""package.sh makes a package of Debian and an archive of the same; installed into a root that has nothing else but libc and python3 it
-runs README's first commands as an ordinary user, and no link of an installed page is dead."""
+"""package.sh makes a package of Debian and an archive of the same; installed into a root that
+has nothing else but libc and python3 it runs README's first commands as an ordinary user, and no
+link of an installed page is dead."""
 from __future__ import annotations
 
 import os
@@ -24,7 +25,9 @@ def made() -> Iterator[Path]:
     """A folder with the package and the archive."""
     for room in new_room():
         environment = {**os.environ, "RINGTAP": str(PROGRAMS[0])}
-        subprocess.run(["sh", TOP / "package.sh", room], env=environment, capture_output=True, check=True)
+        subprocess.run(
+            ["sh", TOP / "package.sh", room], env=environment, capture_output=True, check=True
+        )
         yield room
 
 
@@ -43,7 +46,10 @@ def unpacked(made: Path) -> Path:
 
 def test_version(made: Path) -> None:
     """That of CHANGELOG.md, which the tools say too."""
-    said = subprocess.run(["dpkg-deb", "-f", one(made, "*.deb"), "Version"], capture_output=True, text=True, check=True).stdout.strip()
+    said = subprocess.run(
+        ["dpkg-deb", "-f", one(made, "*.deb"), "Version"], capture_output=True, text=True,
+        check=True
+    ).stdout.strip()
     assert said == re.search(r"^## (\S+)", (TOP / "CHANGELOG.md").read_text(), re.M)[1]
     assert one(made, "*.tar.gz").name.startswith(f"ringtap_{said}_")
 
@@ -51,23 +57,39 @@ def test_version(made: Path) -> None:
 def test_the_archive_has_the_same(made: Path, unpacked: Path) -> None:
     usr = unpacked / "usr"
     with tarfile.open(one(made, "*.tar.gz")) as archive:
-        archived = {member.name.partition("/")[2]: member for member in archive if not member.isdir()}
-    here = {str(path.relative_to(usr)): path for path in usr.rglob("*") if path.is_symlink() or path.is_file()}
+        archived = {
+            member.name.partition("/")[2]: member
+            for member in archive if not member.isdir()
+        }
+    here = {
+        str(path.relative_to(usr)): path
+        for path in usr.rglob("*") if path.is_symlink() or path.is_file()
+    }
     assert archived.keys() == here.keys()
-    assert {name for name, member in archived.items() if not member.issym() and member.size != here[name].stat().st_size} == set()
+    sizes = {name: member.size for name, member in archived.items() if not member.issym()}
+    assert sizes == {name: here[name].stat().st_size for name in sizes}
 
 
 def test_no_link_of_a_page_is_dead(unpacked: Path) -> None:
     pages = list((unpacked / "usr/share/doc/ringtap").rglob("*.md"))
     assert len(pages) > 10
-    links = [(page, link) for page in pages for link in re.findall(r"\]\(([^)#\s:]+)[)#]", page.read_text(encoding="utf-8"))]
-    assert [f"{page.name}: {link}" for page, link in links if not (page.parent / link).exists()] == []
+    links = [
+        (page, link)
+        for page in pages
+        for link in re.findall(r"\]\(([^)#\s:]+)[)#]", page.read_text(encoding="utf-8"))
+    ]
+    assert [
+        f"{page.name}: {link}" for page, link in links if not (page.parent / link).exists()
+    ] == []
 
 
 def test_each_tool_has_its_page_and_its_completion(unpacked: Path) -> None:
     names = {path.name for path in (unpacked / "usr/bin").iterdir()}
     assert {path.stem for path in (unpacked / "usr/share/man/man1").iterdir()} == names
-    assert {path.name for path in (unpacked / "usr/share/bash-completion/completions").iterdir()} == names
+    assert {
+        path.name
+        for path in (unpacked / "usr/share/bash-completion/completions").iterdir()
+    } == names
 
 
 def test_completion_has_the_options_of_a_tool(unpacked: Path) -> None:
@@ -82,7 +104,10 @@ def libraries(program: Path) -> list[Path]:
 
 
 def test_the_program_needs_libc_alone(unpacked: Path) -> None:
-    names = {re.sub(r"[-.]so.*|\.so.*", "", path.name) for path in libraries(unpacked / "usr/bin/ringtap")}
+    names = {
+        re.sub(r"[-.]so.*|\.so.*", "", path.name)
+        for path in libraries(unpacked / "usr/bin/ringtap")
+    }
     assert names <= {"libc", "libm", "libgcc_s", "ld-linux-x86-64", "ld-linux-aarch64"}
 
 
@@ -107,17 +132,29 @@ def root(made: Path) -> Path:
             (root / os.readlink(Path("/", name))).mkdir(parents=True, exist_ok=True)
     python = Path("/usr/bin/python3").resolve()
     commands = [Path("/usr/bin/env"), Path("/bin/sh").resolve(), Path("/bin/cp"), python]
-    for path in [*commands, *(library for command in [*commands, PROGRAMS[0]] for library in libraries(command))]:
+    for path in [
+        *commands,
+        *(library for command in [*commands, PROGRAMS[0]] for library in libraries(command))
+    ]:
         copy_into(root, path)
     (root / "usr/bin/python3").symlink_to(python.name)
     (root / "usr/bin/sh").symlink_to(Path("/bin/sh").resolve().name)
     modules = Path(f"/usr/lib/{python.name}")
-    shutil.copytree(modules, root / modules.relative_to("/"), ignore=shutil.ignore_patterns("test", "__pycache__", "dist-packages"))
-    shutil.copytree("/usr/share/zoneinfo/Etc", root / "usr/share/zoneinfo/Etc", dirs_exist_ok=True, symlinks=True)
+    shutil.copytree(
+        modules, root / modules.relative_to("/"),
+        ignore=shutil.ignore_patterns("test", "__pycache__", "dist-packages")
+    )
+    shutil.copytree(
+        "/usr/share/zoneinfo/Etc", root / "usr/share/zoneinfo/Etc", dirs_exist_ok=True,
+        symlinks=True
+    )
     for folder in ("info", "updates"):
         (root / "var/lib/dpkg" / folder).mkdir(parents=True)
     (root / "var/lib/dpkg/status").write_text("")
-    words = ["dpkg", f"--root={root}", "--force-depends", "--force-not-root", "--install", one(made, "*.deb")]
+    words = [
+        "dpkg", f"--root={root}", "--force-depends", "--force-not-root", "--install",
+        one(made, "*.deb")
+    ]
     done = subprocess.run(words, capture_output=True, text=True, check=False)
     assert done.returncode == 0, done.stderr
     home = root / "home/user"
@@ -129,10 +166,16 @@ def root(made: Path) -> Path:
 
 def by_user(root: Path, command: str) -> str:
     """What a command prints in that root, by a user who isn't root, in a copy of the documents."""
-    words = ["chroot", "--userspec=65534:65534", str(root), "/usr/bin/env", "-i", "PATH=/usr/bin:/bin", "HOME=/home/user"]
+    words = [
+        "chroot", "--userspec=65534:65534", str(root), "/usr/bin/env", "-i", "PATH=/usr/bin:/bin",
+        "HOME=/home/user"
+    ]
     if os.getuid() != 0:
         words = ["unshare", "--map-root-user", "chroot", *words[2:]]
-    done = subprocess.run([*words, "/bin/sh", "-c", f"cd /home/user && {command}"], capture_output=True, text=True, check=False)
+    done = subprocess.run(
+        [*words, "/bin/sh", "-c", f"cd /home/user && {command}"], capture_output=True, text=True,
+        check=False
+    )
     assert done.returncode == 0, done.stderr
     return done.stdout
 
@@ -146,10 +189,16 @@ def test_readme(root: Path) -> None:
 
 
 @pytest.mark.needs("a chroot")
-@pytest.mark.parametrize(("command", "pattern"), [
-    ("ringtap-lost demo/small.txt demo/schedule.txt", r"^  0 *45-52 *8 "),
-    ("ringtap-run replay demo/small.txt demo/schedule.txt --into new", r"^total arrivals 52 filtered 0 kept 43 drops 9$"),
-    ("ringtap-size --version", r"^ringtap-size \(ringtap\) "),
-])
+@pytest.mark.parametrize(
+    ("command", "pattern"),
+    [
+        ("ringtap-lost demo/small.txt demo/schedule.txt", r"^  0 *45-52 *8 "),
+        (
+            "ringtap-run replay demo/small.txt demo/schedule.txt --into new",
+            r"^total arrivals 52 filtered 0 kept 43 drops 9$"
+        ),
+        ("ringtap-size --version", r"^ringtap-size \(ringtap\) "),
+    ]
+)
 def test_a_tool_runs(root: Path, command: str, pattern: str) -> None:
     assert re.search(pattern, by_user(root, command), re.M)

@@ -9,7 +9,11 @@ import pytest
 
 from places import TOP
 
-FILES = sorted(path for folder in ("bench", "checks", "demo", "tools") for path in (TOP / folder).rglob("*.py"))
+FILES = sorted(
+    path
+    for folder in ("bench", "checks", "demo", "tools")
+    for path in (TOP / folder).rglob("*.py")
+)
 
 
 @pytest.mark.parametrize("path", FILES, ids=[str(path.relative_to(TOP)) for path in FILES])
@@ -20,5 +24,8 @@ def test_it_compiles(path: Path, room: Path) -> None:
 @pytest.mark.needs("flake8")
 def test_flake8() -> None:
     """By the configuration of setup.cfg."""
-    done = subprocess.run(["flake8", "bench", "checks", "demo", "tools"], cwd=TOP, capture_output=True, text=True, check=False)
+    done = subprocess.run(
+        ["flake8", "bench", "checks", "demo", "tools"], cwd=TOP, capture_output=True, text=True,
+        check=False
+    )
     assert done.stdout.splitlines() == []

@@ -24,7 +24,10 @@ def counted(pattern: str, by: int) -> Callable[[Ended], Ended]:
     """The number after a word of a line is another one."""
 
     def change(ended: Ended) -> Ended:
-        lines = re.sub(pattern, lambda found: found[1] + str(max(int(found[2]) + by, 0)), ended.lines, count=1, flags=re.M)
+        lines = re.sub(
+            pattern, lambda found: found[1] + str(max(int(found[2]) + by, 0)), ended.lines, count=1,
+            flags=re.M
+        )
         return ended._replace(lines=lines)
 
     return change
@@ -32,11 +35,18 @@ def counted(pattern: str, by: int) -> Callable[[Ended], Ended]:
 
 def refiled(change: Callable[[bytes], bytes], ending: str = ".pcap") -> Callable[[Ended], Ended]:
     """Each file of a kind has other bytes."""
-    return lambda ended: ended._replace(files={name: change(data) if name.endswith(ending) else data for name, data in ended.files.items()})
+    return lambda ended: ended._replace(
+        files={
+            name: change(data) if name.endswith(ending) else data for name,
+            data in ended.files.items()
+        }
+    )
 
 
 def renamed(ended: Ended) -> Ended:
-    return ended._replace(files={name.replace(".0.", ".1."): data for name, data in ended.files.items()})
+    return ended._replace(
+        files={name.replace(".0.", ".1."): data for name, data in ended.files.items()}
+    )
 
 
 def records(data: bytes) -> Iterator[bytes]:
@@ -60,7 +70,10 @@ def first_record_last(data: bytes) -> bytes:
 def in_microseconds(data: bytes) -> bytes:
     """Times without the digits behind the microsecond, and one less."""
     return data[:24] + b"".join(
-        one[:4] + (int.from_bytes(one[4:8], "little") // 1000 * 1000 + 1).to_bytes(4, "little") + one[8:] for one in records(data)
+        one[:4] + (
+            int.from_bytes(one[4:8], "little") // 1000 * 1000 + 1
+        ).to_bytes(4, "little") + one[8:]
+        for one in records(data)
     )
 
 
@@ -71,14 +84,17 @@ IDEAS: dict[str, Callable[[Ended], Ended]] = {
     "a frame less at a CPU": counted(r"^(cpu 0 frames )(\d+)", -1),
     "a block not counted": counted(r"^(member 0 .* blocks )(\d+)", -1),
     "a total that is one too many": counted(r"^(total .* kept )(\d+)", 1),
-    "a file under another name": renamed,
-    "a lost last record": refiled(without_last_record),
+    "a file under another name": renamed, "a lost last record": refiled(without_last_record),
     "the first record last": refiled(first_record_last),
     "times in microseconds": refiled(in_microseconds),
     "a lost last piece of a dump": refiled(lambda data: data[:-48], ".blk"),
     "a block of another status": refiled(lambda data: data[:8] + b"\x21" + data[9:], ".blk"),
-    "a hidden fault": lambda ended: ended._replace(lines=ended.lines.replace("end fault", "end ok"), status=0),
-    "a fault of a save as success": lambda ended: ended._replace(status=0 if ended.status == 6 else ended.status),
+    "a hidden fault": lambda ended: ended._replace(
+        lines=ended.lines.replace("end fault", "end ok"), status=0
+    ),
+    "a fault of a save as success": lambda ended: ended._replace(
+        status=0 if ended.status == 6 else ended.status
+    ),
     "the line after the wrong one": counted(r"^(setup line )(\d+)", 1),
     "a line more": lambda ended: ended._replace(lines=ended.lines + "\n"),
 }
@@ -87,8 +103,14 @@ IDEAS: dict[str, Callable[[Ended], Ended]] = {
 def main(idea: str, words: list[str]) -> int:
     before = {path: path.stat().st_mtime_ns for path in Path().iterdir()}
     done = subprocess.run(words, stdout=subprocess.PIPE, check=False)
-    new = [path for path in Path().iterdir() if path.is_file() and before.get(path) != path.stat().st_mtime_ns]
-    ended = IDEAS[idea](Ended(done.stdout.decode(), done.returncode, {path.name: path.read_bytes() for path in new}))
+    new = [
+        path
+        for path in Path().iterdir()
+        if path.is_file() and before.get(path) != path.stat().st_mtime_ns
+    ]
+    ended = IDEAS[idea](
+        Ended(done.stdout.decode(), done.returncode, {path.name: path.read_bytes() for path in new})
+    )
     for path in new:
         path.unlink()
     for name, data in ended.files.items():

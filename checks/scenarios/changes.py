@@ -1,7 +1,8 @@
-"""Scenarios of which one number is changed, and what the built program of crates/scenario_runs says of each.
+"""Scenarios of which one number is changed, and what the built program of crates/scenario_runs
+says of each.
 
-Each line of a scenario that says what comes of its command is changed in one number at a time, and the scenario carried out with it:
-the runner has to name it."""
+Each line of a scenario that says what comes of its command is changed in one number at a time,
+and the scenario carried out with it: the runner has to name it."""
 from __future__ import annotations
 
 import re
@@ -42,14 +43,17 @@ def whole(scenario: Scenario) -> Lines:
 
 
 def is_compared(scenario: Scenario, line: str) -> bool:
-    """Whether the numbers of a line of what is expected are compared: of a run without a report those of its CPUs and notes
-    aren't."""
+    """Whether the numbers of a line of what is expected are compared: of a run without a report
+    those of its CPUs and notes aren't."""
     return line.split()[0] in EXPECTED and (line.split()[0] != "cpu" or scenario.has_report())
 
 
 def is_fixed(line: str, at: int, scenario: Scenario) -> bool:
     """Whether a place stands in the notes of a member of a run without a report."""
-    return line.split()[0] == "member" and not scenario.has_report() and at < line.find(" kept ") and at > len("  member  0")
+    return (
+        line.split()[0] == "member" and not scenario.has_report() and at < line.find(" kept ")
+        and at > len("  member  0")
+    )
 
 
 def greater(digits: str) -> str:
@@ -57,8 +61,8 @@ def greater(digits: str) -> str:
 
 
 def first_place(line: str) -> int:
-    """The place after the word of a line; after the name of what was sent, whose other name may be another file's, and after the
-    place of bytes, which may be the same beside it."""
+    """The place after the word of a line; after the name of what was sent, whose other name may
+    be another file's, and after the place of bytes, which may be the same beside it."""
     words = {"sent": 2, "file": 3, "fields": 4}.get(line.split()[0], 1)
     found = re.match(rf"\s*(?:\S+\s*){{{words}}}", line)
     return found.end() if found else len(line)
@@ -89,7 +93,10 @@ def changes(scenario: Scenario) -> Iterator[Changed]:
         if is_compared(scenario, line):
             place = lines.index(line)
             for other in changed_numbers(line, scenario):
-                yield Changed(scenario.name, f"{line.strip()} -> {other.strip()}", [*lines[:place], other, *lines[place + 1 :]])
+                yield Changed(
+                    scenario.name, f"{line.strip()} -> {other.strip()}",
+                    [*lines[:place], other, *lines[place + 1 :]]
+                )
 
 
 def batches(every: Iterable[Changed]) -> Iterator[list[Changed]]:
@@ -108,11 +115,22 @@ def batches(every: Iterable[Changed]) -> Iterator[list[Changed]]:
 def named(runner: Path, batch: list[Changed]) -> set[int]:
     """The numbers of the scenarios that the runner names."""
     with tempfile.TemporaryDirectory() as room:
-        (Path(room) / "changed.txt").write_text("\n".join(one.text(at) for at, one in enumerate(batch)), encoding="ascii")
-        ran = subprocess.run([runner, "said", "changed.txt"], cwd=room, capture_output=True, timeout=TIME, check=False)
+        (Path(room) / "changed.txt").write_text(
+            "\n".join(one.text(at) for at, one in enumerate(batch)), encoding="ascii"
+        )
+        ran = subprocess.run(
+            [runner, "said", "changed.txt"], cwd=room, capture_output=True, timeout=TIME,
+            check=False
+        )
     if f"changed.txt: {len(batch)} scenarios" not in ran.stdout.decode():
-        raise ValueError(f"the runner didn't read {len(batch)} scenarios: {ran.stdout[-400:]!r} {ran.stderr[-400:]!r}")
-    return {int(number) for number in re.findall(r"^differs: (\d+) ", ran.stdout.decode(), re.MULTILINE)}
+        raise ValueError(
+            f"the runner didn't read {len(batch)} scenarios: {ran.stdout[-400:]!r} "
+            f"{ran.stderr[-400:]!r}"
+        )
+    return {
+        int(number)
+        for number in re.findall(r"^differs: (\d+) ", ran.stdout.decode(), re.MULTILINE)
+    }
 
 
 def wrong(runner: Path, every: Iterable[Changed], is_noticed: bool) -> list[str]:
@@ -121,5 +139,8 @@ def wrong(runner: Path, every: Iterable[Changed], is_noticed: bool) -> list[str]
     found = []
     for batch in batches(every):
         names = named(runner, batch)
-        found += [f"{said}: {one.name}: {one.what}" for at, one in enumerate(batch) if (at in names) != is_noticed]
+        found += [
+            f"{said}: {one.name}: {one.what}" for at,
+            one in enumerate(batch) if (at in names) != is_noticed
+        ]
     return found

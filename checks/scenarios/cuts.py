@@ -1,7 +1,9 @@
-"""Scenarios of a capture of three frames that is cut at each of its 253 lengths: the whole records before the cut are kept."""
+"""Scenarios of a capture of three frames that is cut at each of its 253 lengths: the whole
+records before the cut are kept."""
 from __future__ import annotations
 
-HEADER, RECORD, FRAMES = 24, 76, 3  # the bytes of a capture's header and of the record of a frame of 60 bytes
+# the bytes of a capture's header and of the record of a frame of 60 bytes
+HEADER, RECORD, FRAMES = 24, 76, 3
 
 BASE = """base
   base
@@ -24,7 +26,8 @@ FIRST = (
 
 
 def scenario(length: int) -> str:
-    """The capture, cut to a length: at which byte the part of it begins that isn't whole, if one is, and what is kept."""
+    """The capture, cut to a length: at which byte the part of it begins that isn't whole, if one
+    is, and what is kept."""
     frames = max(length - HEADER, 0) // RECORD
     place = HEADER + RECORD * frames if length >= HEADER else 0
     is_whole = length == place > 0

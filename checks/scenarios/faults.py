@@ -1,9 +1,11 @@
-"""What comes of a scenario's run where calls of the outside fail: which texts can't be read, how much each capture gives, which
-files are there afterwards, what is printed, and the number of the status.
+"""What comes of a scenario's run where calls of the outside fail: which texts can't be read, how
+much each capture gives, which files are there afterwards, what is printed, and the number of the
+status.
 
-A command fetches its texts and then its captures, saves the files of each member, and prints at last. The first text that can't
-be read ends it. Memory that is refused to a call ends it with status 7, a save or a write that fails makes the status 6, a
-capture that can't be read 5, and one that is damaged or cut 4; of these the first one counts.
+A command fetches its texts and then its captures, saves the files of each member, and prints at
+last. The first text that can't be read ends it. Memory that is refused to a call ends it with
+status 7, a save or a write that fails makes the status 6, a capture that can't be read 5, and
+one that is damaged or cut 4; of these the first one counts.
 """
 from __future__ import annotations
 
@@ -19,7 +21,8 @@ WHOLE = 65_536  # the bytes that one read gives at most
 
 @dataclass(frozen=True)
 class Given:
-    """What a capture gives: its bytes, the word for how it ends where a read fails, and how many bytes were read."""
+    """What a capture gives: its bytes, the word for how it ends where a read fails, and how many
+    bytes were read."""
 
     data: bytes
     is_fault: bool
@@ -28,7 +31,8 @@ class Given:
 
 @dataclass(frozen=True)
 class Ended:
-    """The status, by its number and its `Debug` text as far as these are known; what is printed, and the files afterwards."""
+    """The status, by its number and its `Debug` text as far as these are known; what is printed,
+    and the files afterwards."""
 
     status: str
     printed: str
@@ -43,7 +47,10 @@ def numbers(scenario: Scenario, word: str, what: str) -> list[int]:
 
 def named_in(scenario: Scenario, word: str) -> Lines:
     """The file that the setup names by a word, if it does."""
-    found = [line.split()[1] for line in scenario.text("conf", "with").splitlines() if line.split()[0] == word]
+    found = [
+        line.split()[1]
+        for line in scenario.text("conf", "with").splitlines() if line.split()[0] == word
+    ]
     return found[-1:]
 
 
@@ -67,11 +74,15 @@ def piece_of(scenario: Scenario, name: str) -> int:
 
 
 def has_unread_text(scenario: Scenario) -> bool:
-    """Whether a text isn't there, or a fetch or a read of it fails. The last read of a text gives nothing."""
+    """Whether a text isn't there, or a fetch or a read of it fails. The last read of a text
+    gives nothing."""
     inputs, fetches = scenario.inputs(), numbers(scenario, "fail", "fetch")
     for at, name in enumerate(texts_of(scenario), 1):
         reads = -(-len(inputs.get(name, b"")) // piece_of(scenario, name)) + 1
-        if name not in inputs or at in fetches or any(number <= reads for number in numbers(scenario, "fail", name)):
+        if (
+            name not in inputs or at in fetches
+            or any(number <= reads for number in numbers(scenario, "fail", name))
+        ):
             return True
     return False
 
@@ -82,7 +93,8 @@ def is_damage(end: str) -> bool:
 
 
 def read_of(scenario: Scenario, name: str, data: bytes) -> Given:
-    """What the reads of a capture give until one fails, or damage is found after which nothing is read."""
+    """What the reads of a capture give until one fails, or damage is found after which nothing
+    is read."""
     piece, failing = piece_of(scenario, name), numbers(scenario, "fail", name)
     if not failing and not is_damage(frames_of(data)[1]):
         return Given(data, False, len(data))
@@ -97,9 +109,14 @@ def read_of(scenario: Scenario, name: str, data: bytes) -> Given:
 
 def given_by(scenario: Scenario, names: Lines) -> list[Given]:
     """What the captures of these names give, which are fetched after the texts."""
-    inputs, fetches, first = scenario.inputs(), numbers(scenario, "fail", "fetch"), len(texts_of(scenario)) + 1
+    inputs, fetches, first = (
+        scenario.inputs(), numbers(scenario, "fail", "fetch"), len(texts_of(scenario)) + 1
+    )
     return [
-        Given(b"", True, 0) if first + at in fetches else read_of(scenario, name, inputs[name]) for at, name in enumerate(names)
+        Given(b"", True, 0) if first + at in fetches else read_of(
+            scenario, name, inputs[name]
+        ) for at,
+        name in enumerate(names)
     ]
 
 
@@ -122,13 +139,20 @@ def has_unsaved(scenario: Scenario, count: int) -> bool:
     return any(number <= count for number in numbers(scenario, "fail", "save") + halves)
 
 
-def ended(scenario: Scenario, lines: str, files: dict[str, bytes], status: str, fetches: int) -> Ended:
-    """How a run ends that prints these lines and saves these files, in order, where none of this fails."""
+def ended(
+    scenario: Scenario, lines: str, files: dict[str, bytes], status: str, fetches: int
+) -> Ended:
+    """How a run ends that prints these lines and saves these files, in order, where none of this
+    fails."""
     writes, none = -(-len(lines) // WRITTEN), len(lines) + 1
     poor = poor_call(scenario, fetches + len(files))
     left = dict(saved(scenario, files, len(files) if poor is None else max(0, poor - fetches - 1)))
-    poor_write = next((number for number in numbers(scenario, "poor", "write") if number <= writes), none)
-    failing = next((number for number in numbers(scenario, "fail", "write") if number <= writes), none)
+    poor_write = next(
+        (number for number in numbers(scenario, "poor", "write") if number <= writes), none
+    )
+    failing = next(
+        (number for number in numbers(scenario, "fail", "write") if number <= writes), none
+    )
     if poor is not None:
         return Ended("7 Memory", "out of memory\n", left)
     if poor_write < failing:

@@ -1,5 +1,6 @@
-"""Small runs at random: setups, schedules and filters, over rings of blocks and of slots. The program gives what the second program
-works out, and so does the runner in memory. A run that differs shrinks, and is shown as a scenario that can be pasted into data/."""
+"""Small runs at random: setups, schedules and filters, over rings of blocks and of slots. The
+program gives what the second program works out, and so does the runner in memory. A run that
+differs shrinks, and is shown as a scenario that can be pasted into data/."""
 from __future__ import annotations
 
 import subprocess
@@ -13,7 +14,9 @@ from scenarios import worked
 from scenarios.test_scenarios import runner
 from scenarios.texts import Document, Scenario
 
-hypothesis = pytest.importorskip("hypothesis", reason="needs python3:hypothesis: no such module here")
+hypothesis = pytest.importorskip(
+    "hypothesis", reason="needs python3:hypothesis: no such module here"
+)
 st = hypothesis.strategies
 
 KEY = "6d5a56da255b0ec24167253d43a38fb0d0ca2bcbae7b30b477cb2da38030f20c6a42b73bbeac01fa"
@@ -24,7 +27,10 @@ FILTERS = [
     "3 | 32 0 0 4294963224 | 4 0 0 20 | 22 0 0 0",
     "1 | 6 0 0 40",
 ]
-FRAMES = [f"{name}{length}" for name in ("", "ipv4:", "arp:") for length in (14, 60, 590, 1514)] + ["0", "13", "3966", "3967", "9000"]
+FRAMES = (
+    [f"{name}{length}" for name in ("", "ipv4:", "arp:") for length in (14, 60, 590, 1514)]
+    + ["0", "13", "3966", "3967", "9000"]
+)
 MODES = [f"mode {mode}" for mode in ("lb", "cpu", "rollover", "qm")] + [f"mode hash | key {KEY}"]
 LINES = ["features 1", "priv 13", "tov 5", "flag rollover", "mac 020000000002", "dump yes"]
 
@@ -39,14 +45,26 @@ def small_runs(draw: st.DrawFn) -> str:
     conf = [f"{word} {number}" for word, number in ring] + [f"cpu {name}" for name in names]
     mode = draw(st.sampled_from(MODES))
     lines = draw(st.lists(st.sampled_from(LINES), unique=True, max_size=3))
-    more = [line for line in lines if (line != "flag rollover" or mode != "mode rollover") and (command == "replay" or line in LINES[3:])]
+    more = [
+        line
+        for line in lines
+        if (line != "flag rollover" or mode != "mode rollover") and (
+            command == "replay" or line in LINES[3:]
+        )
+    ]
     listing = draw(st.none() | st.sampled_from(FILTERS))
     text = f"a run at random\n  run {command} conf sched\n  conf {' | '.join(conf)}\n"
-    text += "".join(f"  with {line}\n" for line in [f"members {members}", mode, *more, *["filter f.ddd"] * bool(listing)])
+    text += "".join(
+        f"  with {line}\n"
+        for line in [f"members {members}", mode, *more, *["filter f.ddd"] * bool(listing)]
+    )
     text += f"  filter {listing}\n" if listing else ""
     text += "  bytes ipv4 0200000000020200000000010800\n  bytes arp ffffffffffff0200000000030806\n"
     for name in names:
-        text += f"  pcap {name} {' '.join(draw(st.lists(st.sampled_from(FRAMES), max_size=8)))}".rstrip() + "\n"
+        text += (
+            " ".join(["  pcap", name, *draw(st.lists(st.sampled_from(FRAMES), max_size=8))])
+            + "\n"
+        )
     steps = st.tuples(st.sampled_from(["feed", "feed", "read", "tick", "stats"]), st.integers(0, 5))
     moment = 0
     for word, number in draw(st.lists(steps, max_size=16)):
@@ -74,18 +92,25 @@ def with_results(text: str) -> str:
     for member, ring in enumerate(replay.rings):
         front = "{}." if len(given) > 1 else ""
         kept = [
-            front.format(offer.frame.cpu) + str(offer.frame.index) + (f"/{offer.snap}" if offer.snap < len(offer.frame.data) else "")
+            front.format(offer.frame.cpu) + str(offer.frame.index) + (
+                f"/{offer.snap}" if offer.snap < len(offer.frame.data) else ""
+            )
             for offer in ring.offers()
         ]
         parts = worked.parts_of(files[f"out.{member}.blk"], scenario.first_word() == "replay2")
         blocks = [f"{status}:{length}" for status, length in parts]
-        text += f"  member {member} {ring.notes}." + (f" kept {' '.join(kept)} blocks {' '.join(blocks)}" if kept else "") + "\n"
+        text += (
+            f"  member {member} {ring.notes}."
+            + (f" kept {' '.join(kept)} blocks {' '.join(blocks)}" if kept else "") + "\n"
+        )
     return text
 
 
 def examples(count: int) -> hypothesis.settings:
     """The same runs each time, so that who sees a failure can see it again."""
-    return hypothesis.settings(max_examples=count, deadline=None, derandomize=True, database=None, print_blob=False)
+    return hypothesis.settings(
+        max_examples=count, deadline=None, derandomize=True, database=None, print_blob=False
+    )
 
 
 def test_the_program(program: Path) -> None:
@@ -104,10 +129,15 @@ def test_the_runner() -> None:
     @examples(25)
     @hypothesis.given(st.lists(small_runs(), min_size=1, max_size=20))
     def differs_nowhere(texts: list[str]) -> None:
-        whole = "\n".join(with_results(text).replace("a run", f"run {at}", 1) for at, text in enumerate(texts))
+        whole = "\n".join(
+            with_results(text).replace("a run", f"run {at}", 1) for at, text in enumerate(texts)
+        )
         with tempfile.TemporaryDirectory() as room:
             (Path(room) / "run.txt").write_text(whole)
-            done = subprocess.run([runner(), "said", "run.txt"], cwd=room, capture_output=True, text=True, timeout=600, check=False)
+            done = subprocess.run(
+                [runner(), "said", "run.txt"], cwd=room, capture_output=True, text=True,
+                timeout=600, check=False
+            )
         assert done.returncode == 0, f"\n{done.stdout}\n{whole}"
 
     differs_nowhere()

@@ -1,6 +1,7 @@
-"""What the scenarios of whole runs say, and those of a capture that is cut at each of its lengths, is what the second program works
-out and what each built program does over real files; and the program that carries them out in memory finds nothing that differs,
-notices each number of theirs that is changed, and keeps the whole records of each capture that is cut."""
+"""What the scenarios of whole runs say, and those of a capture that is cut at each of its
+lengths, is what the second program works out and what each built program does over real files;
+and the program that carries them out in memory finds nothing that differs, notices each number
+of theirs that is changed, and keeps the whole records of each capture that is cut."""
 from __future__ import annotations
 
 import functools
@@ -17,7 +18,9 @@ from scenarios.texts import Document, Scenario, scenarios
 DATA = sorted((TOP / "crates/scenario_runs/data").glob("*.txt"))
 EVERY = {f"{path.stem}: {scenario.name}": scenario for path in DATA for scenario in scenarios(path)}
 CUTS = {scenario.name: scenario for scenario in Document(Path("cuts.txt"), cuts.text()).scenarios()}
-RUNNER = Path(os.environ.get("SCENARIO_RUNS", TOP / "crates/scenario_runs/out/scenario_runs")).resolve()
+RUNNER = Path(
+    os.environ.get("SCENARIO_RUNS", TOP / "crates/scenario_runs/out/scenario_runs")
+).resolve()
 
 
 @pytest.mark.parametrize("name", EVERY | CUTS)
@@ -39,7 +42,10 @@ def test_cuts_carried_out(program: Path) -> None:
 @functools.cache
 def runner() -> Path:
     if not RUNNER.is_file():
-        pytest.fail(f"{RUNNER} isn't built: `rt run` in crates/scenario_runs builds it, and SCENARIO_RUNS names another")
+        pytest.fail(
+            f"{RUNNER} isn't built: `rt run` in crates/scenario_runs builds it, and SCENARIO_RUNS "
+            "names another"
+        )
     return RUNNER
 
 
@@ -49,11 +55,16 @@ def test_in_memory(path: Path) -> None:
     every: list[Scenario] = scenarios(path)
     whole = [changes.Changed(one.name, "nothing", changes.whole(one)) for one in every]
     assert changes.wrong(runner(), whole, False) == []
-    assert changes.wrong(runner(), [change for one in every for change in changes.changes(one)], True) == []
+    assert changes.wrong(
+        runner(), [change for one in every for change in changes.changes(one)], True
+    ) == []
 
 
 def test_cuts_in_memory(room: Path) -> None:
     (room / "cuts.txt").write_text(cuts.text(), encoding="ascii")
-    done = subprocess.run([runner(), "said", "cuts.txt"], cwd=room, capture_output=True, text=True, timeout=600, check=False)
+    done = subprocess.run(
+        [runner(), "said", "cuts.txt"], cwd=room, capture_output=True, text=True, timeout=600,
+        check=False
+    )
     assert done.stdout == f"cuts.txt: {len(CUTS)} scenarios, 0 differ\n"
     assert len(CUTS) == 253

@@ -1,4 +1,5 @@
-"""What is wrong with a file of scenarios is said with its line, in one sentence, by the reader of these checks and by the runner."""
+"""What is wrong with a file of scenarios is said with its line, in one sentence, by the reader
+of these checks and by the runner."""
 from __future__ import annotations
 
 import os
@@ -41,14 +42,29 @@ three steps
 """
 # A slip, as what is written in place of what, and the line and the sentence that say it.
 SLIPS = {
-    "an unknown word": ("  pcap ", "  pacp ", 11, '"pacp" is no word of a scenario; "pcap" is meant?'),
-    "a word that nothing is near": ("  pcap ", "  captures ", 11, '"captures" is no word of a scenario'),
-    "a name that isn't there": ("like    base", "like    bose", 10, 'there is no scenario "bose"; "base" is meant?'),
-    "a name that stands twice": ("a full ring\n", "base\n", 9, 'the name "base" stands at line 2 already'),
-    "too many steps": ("# One at the end.\n", STEPS, 23, '"three steps" is like "two steps" in three steps, and two are allowed'),
-    "members out of order": ("member  0", "member  1", 15, 'the lines "member" are 1, and 0, 1 and so on is the order'),
+    "an unknown word": (
+        "  pcap ", "  pacp ", 11, '"pacp" is no word of a scenario; "pcap" is meant?'
+    ),
+    "a word that nothing is near": (
+        "  pcap ", "  captures ", 11, '"captures" is no word of a scenario'
+    ),
+    "a name that isn't there": (
+        "like    base", "like    bose", 10, 'there is no scenario "bose"; "base" is meant?'
+    ),
+    "a name that stands twice": (
+        "a full ring\n", "base\n", 9, 'the name "base" stands at line 2 already'
+    ),
+    "too many steps": (
+        "# One at the end.\n", STEPS, 23,
+        '"three steps" is like "two steps" in three steps, and two are allowed'
+    ),
+    "members out of order": (
+        "member  0", "member  1", 15, 'the lines "member" are 1, and 0, 1 and so on is the order'
+    ),
 }
-SETUP_SLIP = ("block_size", "blok_size", 6, '"blok_size" is no word of a setup; "block_size" is meant?')
+SETUP_SLIP = (
+    "block_size", "blok_size", 6, '"blok_size" is no word of a setup; "block_size" is meant?'
+)
 
 
 def slipped(slip: tuple[str, str, int, str]) -> str:
@@ -81,12 +97,16 @@ def by_command(room: Path, text: str) -> subprocess.CompletedProcess:
 
 def test_comments_stand_anywhere(room: Path) -> None:
     done = by_command(room, GOOD)
-    assert (done.stdout, done.stderr) == ("my.txt: 1 scenarios, 1 worked out, 0 carried out, 0 differ\n", "")
+    assert (done.stdout, done.stderr) == (
+        "my.txt: 1 scenarios, 1 worked out, 0 carried out, 0 differ\n", ""
+    )
 
 
 def test_a_slip_is_one_line(room: Path) -> None:
     done = by_command(room, slipped(SLIPS["an unknown word"]))
-    assert (done.stdout, done.stderr, done.returncode) == ("", 'my.txt:11: "pacp" is no word of a scenario; "pcap" is meant?\n', 1)
+    assert (done.stdout, done.stderr, done.returncode) == (
+        "", 'my.txt:11: "pacp" is no word of a scenario; "pcap" is meant?\n', 1
+    )
 
 
 def test_a_value_that_cant_be_read(room: Path) -> None:
@@ -97,7 +117,10 @@ def test_a_value_that_cant_be_read(room: Path) -> None:
 
 def test_other_lines_are_a_diff(room: Path) -> None:
     """With the numbers of the lines that say what is expected."""
-    done = by_command(room, GOOD.replace("packets 7 drops 3", "packets 8 drops 3").replace("sll_halen 6", "sll_halen 8"))
+    done = by_command(
+        room,
+        GOOD.replace("packets 7 drops 3", "packets 8 drops 3").replace("sll_halen 6", "sll_halen 8")
+    )
     assert done.stdout == """my.txt:9: a full ring: the second program: other lines are printed
         12   cpu 0 frames 7 arrivals 7 end ok
         12 - member 0 packets 8 drops 3 freezes 1 blocks 2
@@ -108,10 +131,14 @@ my.txt: 1 scenarios, 1 worked out, 0 carried out, 1 differ
 """
 
 
-@pytest.mark.parametrize(("word", "other", "near"), [
-    ("pacp", "pcap", True), ("cap", "pcap", True), ("pcapp", "pcap", True), ("bose", "base", True), ("base", "base", False),
-    ("ab", "pcap", False), ("ticks", "sticks", True), ("cpu", "pcap", False),
-])
+@pytest.mark.parametrize(
+    ("word", "other", "near"),
+    [
+        ("pacp", "pcap", True), ("cap", "pcap", True), ("pcapp", "pcap", True),
+        ("bose", "base", True), ("base", "base", False), ("ab", "pcap", False),
+        ("ticks", "sticks", True), ("cpu", "pcap", False),
+    ]
+)
 def test_near(word: str, other: str, near: bool) -> None:
     assert is_near(word, other) == near
     assert is_near(other, word) == near
@@ -132,7 +159,10 @@ def test_the_form_has_each_word() -> None:
 
 def by_runner(room: Path, text: str) -> subprocess.CompletedProcess:
     (room / "my.txt").write_text(text)
-    return subprocess.run([runner(), "said", "my.txt"], cwd=room, capture_output=True, text=True, env={**os.environ}, timeout=600, check=False)
+    return subprocess.run(
+        [runner(), "said", "my.txt"], cwd=room, capture_output=True, text=True, env={**os.environ},
+        timeout=600, check=False
+    )
 
 
 @pytest.mark.parametrize("what", [what for what in SLIPS if what != "members out of order"])
@@ -148,7 +178,11 @@ def test_comments_stand_anywhere_for_the_runner(room: Path) -> None:
 
 
 def test_the_runner_says_which_lines_differ(room: Path) -> None:
-    done = by_runner(room, GOOD.replace("packets 7 drops 3", "packets 8 drops 3").replace("sll_halen 6", "sll_halen 8"))
-    assert "2 - member 0 packets 8 drops 3 freezes 1 blocks 2\n2 + member 0 packets 7 drops 3 freezes 1 blocks 2\n" in done.stdout
+    done = by_runner(
+        room,
+        GOOD.replace("packets 7 drops 3", "packets 8 drops 3").replace("sll_halen 6", "sll_halen 8")
+    )
+    line = "member 0 packets {} drops 3 freezes 1 blocks 2\n"
+    assert f"2 - {line.format(8)}2 + {line.format(7)}" in done.stdout
     assert "wrong: fields out.0.blk 48 packet tp_snaplen 1514 sll_halen 8\n" in done.stdout
     assert done.returncode == 1

@@ -1,6 +1,8 @@
-"""Reads the scenarios of crates/scenario_runs/data, whose form crates/scenario_runs/FORM.md says, apart from that crate's code.
+"""Reads the scenarios of crates/scenario_runs/data, whose form crates/scenario_runs/FORM.md
+says, apart from that crate's code.
 
-A `Scenario` gives what stands in its files before the command, and what comes of the command: lines, files, tries and notes.
+A `Scenario` gives what stands in its files before the command, and what comes of the command:
+lines, files, tries and notes.
 """
 from __future__ import annotations
 
@@ -18,12 +20,19 @@ Lines = list[str]
 TEXTS = {"filter": "f.ddd", "sched": "sched", "ticks": "t.txt"}
 LARGEST_CAPTURE = 33_554_432
 WORDS = frozenset(
-    "like base run plain conf with sched filter ticks pcap tail raw bytes cut pieces endless fail half faults poor hold"
+    "like base run plain conf with sched filter ticks pcap tail raw bytes cut pieces endless fail "
+    "half faults poor hold"
     " status > taken cpu member frames report sent file fields part absent".split()
 )
 # The words of a setup, as the first table of docs/reference.md has them.
 SETUP_WORDS = frozenset(
-    re.findall(r"^\| `(\w+)", (TOP / "docs/reference.md").read_text(encoding="utf-8").partition("| Line | Its value |")[2].partition("\n\n")[0], re.M)
+    re.findall(
+        r"^\| `(\w+)",
+        (TOP / "docs/reference.md").read_text(encoding="utf-8").partition(
+            "| Line | Its value |"
+        )[2].partition("\n\n")[0],
+        re.M
+    )
 )
 
 
@@ -46,39 +55,55 @@ def bytes_of(words: Lines) -> bytes:
 
 # The fields of <linux/if_packet.h>: place, size, and `>` where the bytes are in network order.
 ADDRESS = {
-    "sll_family": (0, 2, "<"), "sll_protocol": (2, 2, ">"), "sll_ifindex": (4, 4, "<"), "sll_hatype": (8, 2, "<"),
-    "sll_pkttype": (10, 1, "<"), "sll_halen": (11, 1, "<"), "sll_addr": (12, 8, ">"),
+    "sll_family": (0, 2, "<"), "sll_protocol": (2, 2, ">"), "sll_ifindex": (4, 4, "<"),
+    "sll_hatype": (8, 2, "<"), "sll_pkttype": (10, 1, "<"), "sll_halen": (11, 1, "<"),
+    "sll_addr": (12, 8, ">"),
 }
 
 
 def with_address(front: int, fields: dict[str, tuple[int, int]]) -> dict[str, tuple[int, int, str]]:
     """The fields of a packet's header, and those of the address that follows it."""
     found = {name: (place, size, "<") for name, (place, size) in fields.items()}
-    return found | {name: (front + place, size, order) for name, (place, size, order) in ADDRESS.items()}
+    return (
+        found
+        | {name: (front + place, size, order) for name, (place, size, order) in ADDRESS.items()}
+    )
 
 
 FIELDS: dict[str, dict[str, tuple[int, int, str]]] = {
     "block": {
-        name: (place, 8 if name == "seq_num" else 4, "<") for name, place in {
-            "version": 0, "offset_to_priv": 4, "block_status": 8, "num_pkts": 12, "offset_to_first_pkt": 16, "blk_len": 20, "seq_num": 24,
-            "first_sec": 32, "first_nsec": 36, "last_sec": 40, "last_nsec": 44,
+        name: (place, 8 if name == "seq_num" else 4, "<") for name,
+        place in {
+            "version": 0, "offset_to_priv": 4, "block_status": 8, "num_pkts": 12,
+            "offset_to_first_pkt": 16, "blk_len": 20, "seq_num": 24, "first_sec": 32,
+            "first_nsec": 36, "last_sec": 40, "last_nsec": 44,
         }.items()
     },
-    "packet": with_address(48, {
-        "tp_next_offset": (0, 4), "tp_sec": (4, 4), "tp_nsec": (8, 4), "tp_snaplen": (12, 4), "tp_len": (16, 4), "tp_status": (20, 4),
-        "tp_mac": (24, 2), "tp_net": (26, 2), "tp_rxhash": (28, 4), "tp_vlan_tci": (32, 4), "tp_vlan_tpid": (36, 2),
-    }),
-    "slot": with_address(32, {
-        "tp_status": (0, 4), "tp_len": (4, 4), "tp_snaplen": (8, 4), "tp_mac": (12, 2), "tp_net": (14, 2), "tp_sec": (16, 4),
-        "tp_nsec": (20, 4), "tp_vlan_tci": (24, 2), "tp_vlan_tpid": (26, 2),
-    }),
+    "packet": with_address(
+        48,
+        {
+            "tp_next_offset": (0, 4), "tp_sec": (4, 4), "tp_nsec": (8, 4), "tp_snaplen": (12, 4),
+            "tp_len": (16, 4), "tp_status": (20, 4), "tp_mac": (24, 2), "tp_net": (26, 2),
+            "tp_rxhash": (28, 4), "tp_vlan_tci": (32, 4), "tp_vlan_tpid": (36, 2),
+        }
+    ),
+    "slot": with_address(
+        32,
+        {
+            "tp_status": (0, 4), "tp_len": (4, 4), "tp_snaplen": (8, 4), "tp_mac": (12, 2),
+            "tp_net": (14, 2), "tp_sec": (16, 4), "tp_nsec": (20, 4), "tp_vlan_tci": (24, 2),
+            "tp_vlan_tpid": (26, 2),
+        }
+    ),
 }
 
 
 def field_bytes(struct: str, field: str, number: str) -> tuple[int, bytes]:
     """Where a field stands in its struct, and the bytes of its value, which is decimal."""
     if struct not in FIELDS:
-        raise LookupError(f'"{struct}" is no struct{meant(struct, FIELDS)}; there are {", ".join(FIELDS)}')
+        raise LookupError(
+            f'"{struct}" is no struct{meant(struct, FIELDS)}; there are {", ".join(FIELDS)}'
+        )
     if field not in FIELDS[struct]:
         raise LookupError(f'"{field}" is no field of {struct}{meant(field, FIELDS[struct])}')
     place, size, order = FIELDS[struct][field]
@@ -95,7 +120,8 @@ class Cpu:
 
 @dataclass(frozen=True)
 class Member:
-    """What is said of a member: its notes, the bytes of its file, and the status and length of each block."""
+    """What is said of a member: its notes, the bytes of its file, and the status and length of
+    each block."""
 
     notes: str
     output: bytes
@@ -110,16 +136,24 @@ class Scenario:
 
     def line_of(self, word: str, text: str = "") -> Line:
         """The first line of a word that has this text; the name where there is none."""
-        lines = (line for layer in self.layers for line in layer if line.split()[0] == word and text in line)
+        lines = (
+            line
+            for layer in self.layers
+            for line in layer if line.split()[0] == word and text in line
+        )
         return next(lines, self.name)
 
     def values(self, word: str) -> Lines:
-        """What is said of a word, between bars: by its own lines, or else by those of the one that it is like. A line with the
-        word alone says that there is nothing."""
+        """What is said of a word, between bars: by its own lines, or else by those of the one
+        that it is like. A line with the word alone says that there is nothing."""
         for lines in self.layers:
             found = [line.strip().partition(" ")[2] for line in lines if line.split()[0] == word]
             if found:
-                return [part.strip() for value in found for part in value.split(" | ") if part.strip()]
+                return [
+                    part.strip()
+                    for value in found
+                    for part in value.split(" | ") if part.strip()
+                ]
         return []
 
     def value(self, word: str, default: str = "") -> str:
@@ -169,7 +203,8 @@ class Scenario:
         yield from raw.items()
 
     def capture_files(self) -> list[tuple[str, bytes]]:
-        """The captures as they can be read: cut, and of those without an end more than is ever read."""
+        """The captures as they can be read: cut, and of those without an end more than is ever
+        read."""
         cuts, endless, files = self.named("cut"), self.named("endless"), []
         for name, data in self.whole_captures():
             data = data[: int(cuts.get(name, len(data)))]
@@ -182,7 +217,10 @@ class Scenario:
     def inputs(self) -> dict[str, bytes]:
         """The files that the command finds."""
         files = {"conf": self.text("conf", "with")}
-        files |= {name: self.text(word) for word, name in TEXTS.items() if word != "ticks" or self.values(word)}
+        files |= {
+            name: self.text(word) for word,
+            name in TEXTS.items() if word != "ticks" or self.values(word)
+        }
         return {name: text.encode() for name, text in files.items()} | dict(self.capture_files())
 
     # What comes of the command.
@@ -195,14 +233,23 @@ class Scenario:
 
     def printed_by(self) -> list[Line]:
         """For each printed line the one that says it."""
-        layer = next((lines for lines in self.layers if any(line.split()[0] == ">" for line in lines)), [])
+        layer = next(
+            (lines for lines in self.layers if any(line.split()[0] == ">" for line in lines)), []
+        )
         said = [line for line in layer if line.split()[0] == ">"]
-        return [line for line in said for part in line.split(" | ") for _ in repeated_line(part.strip()).splitlines()]
+        return [
+            line
+            for line in said
+            for part in line.split(" | ")
+            for _ in repeated_line(part.strip()).splitlines()
+        ]
 
     def printed(self) -> str:
         """The lines as far as they were taken, and one more where memory was refused."""
         lines = self.lines()
-        return lines[: int(self.value("taken", str(len(lines))))] + ("out of memory\n" if self.status() == 7 else "")
+        return lines[: int(self.value("taken", str(len(lines))))] + (
+            "out of memory\n" if self.status() == 7 else ""
+        )
 
     def has_report(self) -> bool:
         """Whether the report is said."""
@@ -232,7 +279,12 @@ class Scenario:
             first, _, last = indices.partition("-")
             for index in range(int(first), int(last or first) + 1):
                 frame = captures[int(capture or 0)][index]
-                records.append(record(frame[: int(most or len(frame))], sec=sec, fraction=nsec, original=len(frame)))
+                records.append(
+                    record(
+                        frame[: int(most or len(frame))], sec=sec, fraction=nsec,
+                        original=len(frame)
+                    )
+                )
         return capture_bytes.output(records)
 
     def members(self) -> list[Member]:
@@ -242,15 +294,24 @@ class Scenario:
             front, _, kept = front.partition(" kept ")
             parts = [block.split(":") for word in blocks.split() for block in repeated(word)]
             output = self.records(kept.split(), 1, 2_000)
-            found.append(Member(front.split()[1], output, [(int(status), int(length)) for status, length in parts]))
+            found.append(
+                Member(
+                    front.split()[1], output,
+                    [(int(status), int(length)) for status, length in parts]
+                )
+            )
         return found
 
     def sent(self) -> list[tuple[str, bytes]]:
         """The files of what was sent."""
-        return [(value.split()[0], self.records(value.split()[1:], 0, 0)) for value in self.values("sent")]
+        return [
+            (value.split()[0], self.records(value.split()[1:], 0, 0))
+            for value in self.values("sent")
+        ]
 
     def places(self) -> Iterator[tuple[str, int, bytes, str]]:
-        """The bytes that are said at places of files, by digits or as fields of a struct, each with what says them."""
+        """The bytes that are said at places of files, by digits or as fields of a struct, each
+        with what says them."""
         for value in self.values("file"):
             name, at, *digits = value.split()
             yield name, int(at), bytes_of(digits), value
@@ -290,10 +351,13 @@ class Line(str):
 
 
 def is_near(word: str, other: str) -> bool:
-    """Whether one letter differs: another one, one more, one less, or two that have changed places."""
+    """Whether one letter differs: another one, one more, one less, or two that have changed
+    places."""
     if sorted(word) == sorted(other):
         return sum(a != b for a, b in zip(word, other)) == 2
-    front = next((at for at, (a, b) in enumerate(zip(word, other)) if a != b), min(len(word), len(other)))
+    front = next(
+        (at for at, (a, b) in enumerate(zip(word, other)) if a != b), min(len(word), len(other))
+    )
     if len(word) == len(other):
         return word[front + 1 :] == other[front + 1 :]
     long, short = sorted((word, other), key=len, reverse=True)
@@ -307,7 +371,8 @@ def meant(word: str, known: Iterable[str]) -> str:
 
 
 def paragraphs(text: str) -> list[list[Line]]:
-    """The lines of each scenario, the first of which is its name. A line that begins with `#` is a comment, wherever it stands."""
+    """The lines of each scenario, the first of which is its name. A line that begins with `#` is
+    a comment, wherever it stands."""
     parts: list[list[Line]] = [[]]
     for number, line in enumerate(text.split("\n"), 1):
         if not line:
@@ -331,7 +396,9 @@ class Document:
         for name, *lines in paragraphs(text):
             if name in self.lines:
                 first = next(other.number for other in self.names if other == name)
-                raise Mistake(path, name.number, f'the name "{name}" stands at line {first} already')
+                raise Mistake(
+                    path, name.number, f'the name "{name}" stands at line {first} already'
+                )
             self.names.append(name)
             self.lines[name] = lines
         for lines in self.lines.values():
@@ -341,7 +408,9 @@ class Document:
         for line in lines:
             word = line.split()[0]
             if word not in WORDS:
-                raise Mistake(self.path, line.number, f'"{word}" is no word of a scenario{meant(word, WORDS)}')
+                raise Mistake(
+                    self.path, line.number, f'"{word}" is no word of a scenario{meant(word, WORDS)}'
+                )
 
     def layers(self, name: str) -> list[list[Line]]:
         """The lines of a scenario, and those of the ones that it is like: two steps at most."""
@@ -349,7 +418,10 @@ class Document:
         while like := next((line for line in layers[-1] if line.split()[0] == "like"), None):
             base = base_of(like)
             if base not in self.lines:
-                raise Mistake(self.path, like.number, f'there is no scenario "{base}"{meant(base, self.names)}')
+                raise Mistake(
+                    self.path, like.number,
+                    f'there is no scenario "{base}"{meant(base, self.names)}'
+                )
             likes.append(like)
             if len(likes) == 3:
                 told = f'"{name}" is like "{base_of(likes[0])}" in three steps, and two are allowed'
@@ -359,7 +431,10 @@ class Document:
 
     def scenarios(self) -> list[Scenario]:
         """Those that are carried out, in order."""
-        named = {name for name in self.names if not any(line.split() == ["base"] for line in self.lines[name])}
+        named = {
+            name
+            for name in self.names if not any(line.split() == ["base"] for line in self.lines[name])
+        }
         found = [Scenario(name, self.layers(name)) for name in self.names if name in named]
         for scenario in found:
             self.check_order(scenario)
@@ -371,7 +446,10 @@ class Document:
             indices = [value.split()[0] for value in scenario.values(word)]
             if indices != [str(at) for at in range(len(indices))]:
                 line = scenario.line_of(word)
-                raise Mistake(self.path, line.number, f'the lines "{word}" are {", ".join(indices)}, and 0, 1 and so on is the order')
+                raise Mistake(
+                    self.path, line.number,
+                    f'the lines "{word}" are {", ".join(indices)}, and 0, 1 and so on is the order'
+                )
 
     def check_setup(self, scenario: Scenario) -> None:
         """The setup of a scenario that isn't refused has known words alone."""
@@ -382,7 +460,10 @@ class Document:
                 first = (line.split() or ["#"])[0]
                 if not first.startswith("#") and first not in SETUP_WORDS:
                     place = scenario.line_of(word, first).number
-                    raise Mistake(self.path, place, f'"{first}" is no word of a setup{meant(first, SETUP_WORDS)}')
+                    raise Mistake(
+                        self.path, place,
+                        f'"{first}" is no word of a setup{meant(first, SETUP_WORDS)}'
+                    )
 
 
 def scenarios(path: Path) -> list[Scenario]:

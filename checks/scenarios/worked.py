@@ -1,11 +1,13 @@
 #!/usr/bin/env python3
-"""Tests what the scenarios of whole runs say, apart from the code of crates/scenarios that carries them out in memory.
+"""Tests what the scenarios of whole runs say, apart from the code of crates/scenarios that
+carries them out in memory.
 
     scenario.py FILE..                     works out anew what they say, by the second program
-    scenario.py --program PROGRAM FILE..   and carries them out with a program as well, over real files
+    scenario.py --program PROGRAM FILE..   and has a program carry them out as well, over real files
 
-Worked out are the status, the lines, the files, each block, the tries and the notes of each run that isn't refused, with the calls
-of the outside that fail in it. Carried out are those in which none fails and no thread waits for another.
+Worked out are the status, the lines, the files, each block, the tries and the notes of each run
+that isn't refused, with the calls of the outside that fail in it. Carried out are those in which
+none fails and no thread waits for another.
 """
 from __future__ import annotations
 
@@ -90,7 +92,10 @@ class Logged(Replay):
 
     rings: list[NotedRing] | list[NotedSlots]
 
-    def __init__(self, setup: Setup, captures: list[bytes], program: filter_verdicts.Program | None, kind: RingKind) -> None:
+    def __init__(
+        self, setup: Setup, captures: list[bytes], program: filter_verdicts.Program | None,
+        kind: RingKind
+    ) -> None:
         super().__init__(setup, captures, program, kind)
         self.logs = [""] * len(self.frames)
 
@@ -106,7 +111,10 @@ class Logged(Replay):
         super().deliver(cpu, offer, home)
         new = [ring.notes[length:] for ring, length in zip(self.rings, before)]
         members = [(home + step) % len(self.rings) for step in range(len(self.rings))]
-        self.logs[cpu] += "".join(new[member][0].replace("n", "k") + str(member) for member in members if new[member])
+        self.logs[cpu] += "".join(
+            new[member][0].replace("n", "k") + str(member)
+            for member in members if new[member]
+        )
         if new[home].startswith("r") and new[home].lstrip("r0123456789").startswith("d"):
             self.logs[cpu] += f"d{home}"
 
@@ -118,8 +126,9 @@ class Logged(Replay):
 
 @dataclass(frozen=True)
 class Run:
-    """A run in which no save and no write fails: its status, how many files it fetches, its lines, and its files with each
-    block dumped; the tries of its CPUs and the notes of its members, where it has a report."""
+    """A run in which no save and no write fails: its status, how many files it fetches, its
+    lines, and its files with each block dumped; the tries of its CPUs and the notes of its
+    members, where it has a report."""
 
     status: str
     fetches: int
@@ -137,16 +146,23 @@ def with_forwards(setup: Setup, lines: str, files: Files) -> tuple[str, Files]:
         if line.startswith("member "):
             front = f"{setup.prefix}.{line.split()[1]}"
             data, sent, skipped = forwards.sent_of(setup, files[f"{front}.pcap"])
-            saved |= {name: found for name, found in files.items() if name.startswith(front)} | {f"{front}.tx.pcap": data}
+            saved |= (
+                {name: found for name, found in files.items() if name.startswith(front)}
+                | {f"{front}.tx.pcap": data}
+            )
             told += f"forward {line.split()[1]} sent {sent} skipped {skipped}\n"
     return told, saved
 
 
 def held_schedule(scenario: Scenario, count: int) -> str:
-    """The schedule of a run on threads whose one CPU has so many frames, each of which waits until blocks are released."""
+    """The schedule of a run on threads whose one CPU has so many frames, each of which waits
+    until blocks are released."""
     schedule, released = "", 0
     for index in range(count):
-        for found in re.findall(rf"frame 0\.{index} until block 0\.(\d+)$", "\n".join(scenario.values("hold")), re.MULTILINE):
+        for found in re.findall(
+            rf"frame 0\.{index} until block 0\.(\d+)$", "\n".join(scenario.values("hold")),
+            re.MULTILINE
+        ):
             schedule += "read 0\n" * (int(found) - released)
             released = int(found)
         schedule += "feed 0\n"
@@ -156,7 +172,10 @@ def held_schedule(scenario: Scenario, count: int) -> str:
 def sources(scenario: Scenario, setup: Setup) -> tuple[list[Given], str]:
     """What the captures of a run's CPUs give, and its schedule."""
     if scenario.first_word() != "make":
-        schedule = scenario.inputs()["sched"].decode() if scenario.first_word() in ("replay", "replay2") else ""
+        schedule = (
+            scenario.inputs()["sched"].decode() if scenario.first_word() in ("replay", "replay2")
+            else ""
+        )
         if scenario.values("hold"):
             schedule = held_schedule(scenario, len(scenario.captures()[0][1]))
         return given_by(scenario, [name for name, _ in setup.cpus]), schedule
@@ -178,7 +197,8 @@ def replayed(scenario: Scenario, setup: Setup, given: list[Given], schedule: str
 
 
 def status_of(given: list[Given], ends: Lines) -> str:
-    """The status by how captures end: a fault, or else the damage of the first one that has some."""
+    """The status by how captures end: a fault, or else the damage of the first one that has
+    some."""
     damages = [(cpu, *end.split()) for cpu, end in enumerate(ends) if end not in ("ok", "fault")]
     if any(capture.is_fault for capture in given):
         return "5 ReadFault"
@@ -208,25 +228,33 @@ def sent_run(scenario: Scenario, setup: Setup) -> Run:
     lines, files = second_runs.send(setup, given.data)
     first, rest = lines.split("\n", 1)
     front, end = first.split(" end ")
-    return Run(status_of([given], [end]), 2, f"{front} end {'fault' if given.is_fault else end}\n{rest}", files, [], [])
+    return Run(
+        status_of([given], [end]), 2, f"{front} end {'fault' if given.is_fault else end}\n{rest}",
+        files, [], []
+    )
 
 
 def worked_out(scenario: Scenario) -> Run:
     if has_unread_text(scenario):
         return Run("5 ReadFault", len(texts_of(scenario)), "read fault\n", {}, [], [])
     setup = Setup(scenario.text("conf", "with") + "dump yes\n")
-    return sent_run(scenario, setup) if scenario.first_word() == "send" else worked_run(scenario, setup)
+    return sent_run(scenario, setup) if scenario.first_word() == "send" else worked_run(
+        scenario, setup
+    )
 
 
 def end_of(scenario: Scenario, run: Run) -> Ended:
     """How a run ends with its saves and its writes, of which some may fail."""
     is_dumped = "dump yes" in scenario.text("conf", "with")
-    files = {name: data for name, data in run.files.items() if is_dumped or not name.endswith(".blk")}
+    files = {
+        name: data for name, data in run.files.items() if is_dumped or not name.endswith(".blk")
+    }
     return ended(scenario, run.lines, files, run.status, run.fetches)
 
 
 def parts_of(dump: bytes, is_slots: bool) -> Iterator[tuple[int, int]]:
-    """The status and the length of each block of a dump, or of each slot up to the end of its packet."""
+    """The status and the length of each block of a dump, or of each slot up to the end of its
+    packet."""
     status_at, length_at, more = (0, 8, V2_HEADER) if is_slots else (8, 20, 0)
     while dump:
         status = int.from_bytes(dump[status_at : status_at + 4], "little")
@@ -239,9 +267,13 @@ def same_lines(said: str, found: str) -> bool:
     """Whether lines are as said, where `*` stands for any one word."""
     if "*" not in said:
         return said == found
-    pairs = [(one.split(), other.split()) for one, other in zip(said.splitlines(), found.splitlines())]
+    pairs = [
+        (one.split(), other.split()) for one, other in zip(said.splitlines(), found.splitlines())
+    ]
     words = [(one, other) for ones, others in pairs for one, other in zip(ones, others)]
-    same = all(len(ones) == len(others) for ones, others in pairs) and all(one in ("*", other) for one, other in words)
+    same = all(len(ones) == len(others) for ones, others in pairs) and all(
+        one in ("*", other) for one, other in words
+    )
     return same and said.count("\n") == found.count("\n")
 
 
@@ -254,19 +286,28 @@ def other_lines(scenario: Scenario, found: str) -> Iterator[str]:
     width = len(max(numbers, key=len, default="0"))
     ours, theirs = said.splitlines(), found.splitlines()
     yield "other lines are printed"
-    for kind, first, last, start, end in difflib.SequenceMatcher(None, ours, theirs, False).get_opcodes():
+    for kind, first, last, start, end in difflib.SequenceMatcher(
+        None, ours, theirs, False
+    ).get_opcodes():
         signs = [(" ", first, last)] if kind == "equal" else [("-", first, last)]
         for sign, low, high in signs:
-            yield from (f"{(numbers[at : at + 1] or ['']) [0]:>{width}} {sign} {ours[at]}" for at in range(low, high))
+            yield from (
+                f"{(numbers[at : at + 1] or ['']) [0]:>{width}} {sign} {ours[at]}"
+                for at in range(low, high)
+            )
         if kind != "equal":
             yield from (f"{'':>{width}} + {theirs[at]}" for at in range(start, end))
 
 
 def other_files(scenario: Scenario, files: Files) -> Iterator[str]:
-    """The files that are there and must not be, or hold other bytes than is said, as far as they have to be there."""
+    """The files that are there and must not be, or hold other bytes than is said, as far as they
+    have to be there."""
     parts, absent = scenario.parts(), scenario.absent()
     yield from (f"{name} is there" for name in absent if name in files)
-    yield from (f"{name} has other bytes" for name, length in parts.items() if len(files.get(name, b"")) != length)
+    yield from (
+        f"{name} has other bytes" for name,
+        length in parts.items() if len(files.get(name, b"")) != length
+    )
     members = [(f"out.{at}.pcap", member.output) for at, member in enumerate(scenario.members())]
     for name, data in [*members, *scenario.sent()]:
         if name not in absent and files.get(name) != data[: parts.get(name, len(data))]:
@@ -295,7 +336,10 @@ def other_report(scenario: Scenario, run: Run) -> Iterator[str]:
         yield f"tries {run.cpus}"
     if scenario.has_report() and run.notes != [member.notes for member in scenario.members()]:
         yield f"notes {run.notes}"
-    if scenario.value("report") != "any" and scenario.status() != 7 and bool(run.cpus) != scenario.has_report():
+    if (
+        scenario.value("report") != "any" and scenario.status() != 7
+        and bool(run.cpus) != scenario.has_report()
+    ):
         yield "a report that isn't there, or one that isn't said"
 
 
@@ -331,12 +375,15 @@ def carried_out(scenario: Scenario, program: Path, more: str) -> Ended:
         ran, why = running.run([program, *scenario.command()], cwd=room)
         if ran is None:
             return Ended(str(why), "", {})
-        return Ended(str(ran.returncode), ran.stdout.decode(), {path.name: path.read_bytes() for path in room.iterdir()})
+        return Ended(
+            str(ran.returncode), ran.stdout.decode(),
+            {path.name: path.read_bytes() for path in room.iterdir()}
+        )
 
 
 def can_be_worked_out(scenario: Scenario) -> bool:
-    """Whether it is a run that isn't refused, or a text of it can't be read. Of threads that wait for each other there is one
-    feeder and one reader."""
+    """Whether it is a run that isn't refused, or a text of it can't be read. Of threads that
+    wait for each other there is one feeder and one reader."""
     is_wide = len(scenario.captures()) > 1 or len(scenario.members()) > 1
     if scenario.status() in REFUSED or scenario.values("hold") and is_wide:
         return False
@@ -345,7 +392,10 @@ def can_be_worked_out(scenario: Scenario) -> bool:
 
 def can_be_carried_out(scenario: Scenario) -> bool:
     """Whether a run is told in which nothing of the outside fails, by a program with threads."""
-    return not any(scenario.values(word) for word in ("fail", "half", "faults", "poor", "hold", "plain"))
+    return not any(
+        scenario.values(word)
+        for word in ("fail", "half", "faults", "poor", "hold", "plain")
+    )
 
 
 def differences(scenario: Scenario, program: Path | None) -> Iterator[str]:
@@ -355,7 +405,9 @@ def differences(scenario: Scenario, program: Path | None) -> Iterator[str]:
     if program and can_be_carried_out(scenario):
         yield from after("the program", program_differs(scenario, program, ""))
         if scenario.values("member") and "dump yes" not in scenario.text("conf", "with"):
-            yield from after("the program, dumped", program_differs(scenario, program, "dump yes\n"))
+            yield from after(
+                "the program, dumped", program_differs(scenario, program, "dump yes\n")
+            )
 
 
 def after(who: str, faults: Iterator[str]) -> Iterator[str]:
@@ -389,10 +441,16 @@ def compare(path: Path, program: Path | None) -> int:
         faults = checked(scenario, program)
         differing += bool(faults)
         for at, fault in enumerate(faults):
-            print(f"{path}:{scenario.name.number}: {scenario.name}: {fault}" if at == 0 else f"    {fault}")
+            print(
+                f"{path}:{scenario.name.number}: {scenario.name}: {fault}" if at == 0
+                else f"    {fault}"
+            )
     worked = sum(is_readable(scenario) and can_be_worked_out(scenario) for scenario in found)
     carried = sum(map(can_be_carried_out, found)) if program else 0
-    print(f"{path.name}: {len(found)} scenarios, {worked} worked out, {carried} carried out, {differing} differ")
+    print(
+        f"{path.name}: {len(found)} scenarios, {worked} worked out, {carried} carried out, "
+        f"{differing} differ"
+    )
     return differing
 
 

@@ -1,18 +1,22 @@
-"""The bytes of captures: a pcap file by its header and its records, a pcapng file by its blocks. What a field says can be wrong."""
+"""The bytes of captures: a pcap file by its header and its records, a pcapng file by its blocks.
+What a field says can be wrong."""
 from __future__ import annotations
 
 import struct
 from collections.abc import Iterable
 
-MICROSECONDS, NANOSECONDS = 0xA1B2C3D4, 0xA1B23C4D  # the magics of pcap, by the unit of a record's fraction
+# the magics of pcap, by the unit of a record's fraction
+MICROSECONDS, NANOSECONDS = 0xA1B2C3D4, 0xA1B23C4D
 LARGEST_RECORD = 262_144
-SECTION, INTERFACE, SIMPLE, ENHANCED = 0x0A0D0D0A, 1, 3, 6  # the types of the pcapng blocks that are read
+# the types of the pcapng blocks that are read
+SECTION, INTERFACE, SIMPLE, ENHANCED = 0x0A0D0D0A, 1, 3, 6
 BYTE_ORDER_MAGIC = 0x1A2B3C4D
 TIME_RESOLUTION = 9  # the option of an interface
 
 
 def header(
-    order: str = "<", magic: int = MICROSECONDS, version: tuple[int, int] = (2, 4), link: int = 1, snap: int = 65_535
+    order: str = "<", magic: int = MICROSECONDS, version: tuple[int, int] = (2, 4), link: int = 1,
+    snap: int = 65_535
 ) -> bytes:
     """The header of a pcap file."""
     return struct.pack(order + "IHHiIII", magic, *version, 0, 0, snap, link)
@@ -23,7 +27,8 @@ OUTPUT_HEADER = header(magic=NANOSECONDS, snap=LARGEST_RECORD)
 
 
 def record(
-    data: bytes, order: str = "<", sec: int = 1, fraction: int = 2, captured: int | None = None, original: int | None = None
+    data: bytes, order: str = "<", sec: int = 1, fraction: int = 2, captured: int | None = None,
+    original: int | None = None
 ) -> bytes:
     """A record of a pcap file; both lengths are that of the data where no other is given."""
     length = len(data) if captured is None else captured
@@ -49,16 +54,25 @@ def section(order: str, minor: int = 0) -> bytes:
 
 def interface(order: str, resolution: int | None = None, snap: int = 0, link: int = 1) -> bytes:
     """An interface, with the option of its time resolution where that is given."""
-    options = b"" if resolution is None else struct.pack(order + "HHB3xHH", TIME_RESOLUTION, 1, resolution, 0, 0)
+    options = b"" if resolution is None else struct.pack(
+        order + "HHB3xHH", TIME_RESOLUTION, 1, resolution, 0, 0
+    )
     return block(order, INTERFACE, struct.pack(order + "HHI", link, 0, snap) + options)
 
 
-def enhanced(order: str, interface_id: int, time: int, data: bytes, wire: int | None = None) -> bytes:
+def enhanced(
+    order: str, interface_id: int, time: int, data: bytes, wire: int | None = None
+) -> bytes:
     """A packet of an interface, at a time in units of that interface."""
     length = len(data) if wire is None else wire
-    return block(order, ENHANCED, struct.pack(order + "5I", interface_id, *divmod(time, 2**32), len(data), length) + data)
+    return block(
+        order, ENHANCED,
+        struct.pack(order + "5I", interface_id, *divmod(time, 2**32), len(data), length) + data
+    )
 
 
 def simple(order: str, data: bytes, original: int | None = None) -> bytes:
     """A packet of the first interface, without a time."""
-    return block(order, SIMPLE, struct.pack(order + "I", len(data) if original is None else original) + data)
+    return block(
+        order, SIMPLE, struct.pack(order + "I", len(data) if original is None else original) + data
+    )

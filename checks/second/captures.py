@@ -1,19 +1,24 @@
-"""Captures that run on threads, by `capture`, and from outside what holds whichever thread goes first.
+"""Captures that run on threads, by `capture`, and from outside what holds whichever thread goes
+first.
 
-What is tested of a run, with the second program for what doesn't hang on the threads (frames, arrivals, verdicts, homes, bytes):
+What is tested of a run, with the second program for what doesn't hang on the threads (frames,
+arrivals, verdicts, homes, bytes):
 
-- The status, and the lines of the CPUs, are those of a `replay`, and so are the arrivals and the refused ones in the total.
-- Each frame that passes is in one output at most; what is in none is what the members dropped. Each record has the frame's
-  time, bytes and lengths, and stands in its CPU's order, at a member that the mode allows.
-- A member's packets are those of its output and its drops. It drops and freezes only where all blocks of its ring were retired,
-  and not at all where its ring has room for whatever comes.
-- A dump has blocks with numbers from 1, each with the bytes that its packets give, and these are the packets of the output.
+- The status, and the lines of the CPUs, are those of a `replay`, and so are the arrivals and the
+  refused ones in the total.
+- Each frame that passes is in one output at most; what is in none is what the members dropped.
+  Each record has the frame's time, bytes and lengths, and stands in its CPU's order, at a member
+  that the mode allows.
+- A member's packets are those of its output and its drops. It drops and freezes only where all
+  blocks of its ring were retired, and not at all where its ring has room for whatever comes.
+- A dump has blocks with numbers from 1, each with the bytes that its packets give, and these are
+  the packets of the output.
 - Where nothing hangs on the threads, lines and files are those of a replay with an empty schedule.
 
 Half of the setups have a pool of 1 to 8 workers, of which nothing of this may hang.
 
-Runs of the second program with random schedules are outcomes that threads might have, so they have to pass. Others are made wrong in
-one thing each, and have to be refused.
+Runs of the second program with random schedules are outcomes that threads might have, so they
+have to pass. Others are made wrong in one thing each, and have to be refused.
 """
 from __future__ import annotations
 
@@ -39,7 +44,8 @@ from second.setup import Setup
 
 
 class Case(NamedTuple):
-    """A run: its setup, the captures of the CPUs from 0 up (None for one that isn't there), its filter's text and its moments."""
+    """A run: its setup, the captures of the CPUs from 0 up (None for one that isn't there), its
+    filter's text and its moments."""
 
     setup: str
     captures: Sequence[bytes | None]
@@ -48,7 +54,8 @@ class Case(NamedTuple):
 
 
 class Passing(NamedTuple):
-    """A packet that passes: its CPU, its number there, its home where the mode fixes it, and its offer."""
+    """A packet that passes: its CPU, its number there, its home where the mode fixes it, and its
+    offer."""
 
     cpu: int
     index: int
@@ -67,14 +74,17 @@ TIMES = 8  # the seconds of CPU C's frames are C more than a multiple of this
 
 
 class Arriving(Replay):
-    """The arrivals of a run, CPU after CPU: the packets that pass, each with its home where that doesn't hang on the threads."""
+    """The arrivals of a run, CPU after CPU: the packets that pass, each with its home where that
+    doesn't hang on the threads."""
 
     def __init__(self, case: Case) -> None:
         self.passing: list[list[Passing]] = [[] for _ in case.captures]
         setup = Setup(case.setup)
         code = filter_verdicts.program(case.listing) if case.listing else None
         super().__init__(setup, [capture or b"" for capture in case.captures], code, Ring)
-        self.ends = ["fault" if capture is None else end for capture, end in zip(case.captures, self.ends)]
+        self.ends = [
+            "fault" if capture is None else end for capture, end in zip(case.captures, self.ends)
+        ]
         self.feed_rest()
 
     def deliver(self, cpu: int, offer: Offer, home: int) -> None:
@@ -102,16 +112,25 @@ def numbers_of(lines: str, run: Arriving) -> list[Numbers] | None:
     """The members' numbers, where the lines are of the right form."""
     cpus, members = len(run.passing), run.setup.members
     found, words = lines.splitlines(keepends=True), list[Numbers]()
-    if found[:cpus] != list(run.cpu_lines()) or len(found) != cpus + members + 1 or not lines.endswith("\n"):
+    if (
+        found[:cpus] != list(run.cpu_lines()) or len(found) != cpus + members + 1
+        or not lines.endswith("\n")
+    ):
         return None
     for member, line in enumerate(found[cpus:-1]):
         values = line.removesuffix("\n").split(" ")
-        if values[:2] != ["member", str(member)] or values[2::2] != ["packets", "drops", "freezes", "blocks"]:
+        if (
+            values[:2] != ["member", str(member)]
+            or values[2::2] != ["packets", "drops", "freezes", "blocks"]
+        ):
             return None
         words.append(Numbers(*map(int, values[3::2])))
     drops = sum(member.drops for member in words)
     kept = sum(member.packets for member in words) - drops
-    return words if found[-1] == run.total_line(kept, drops) and kept + drops == len(run.all()) else None
+    return (
+        words if found[-1] == run.total_line(kept, drops) and kept + drops == len(run.all())
+        else None
+    )
 
 
 def key_of(sec: int, nsec: int) -> tuple[int, int]:
@@ -120,7 +139,8 @@ def key_of(sec: int, nsec: int) -> tuple[int, int]:
 
 
 def output_packets(data: bytes, known: dict[tuple[int, int], Passing]) -> list[Passing] | None:
-    """The packets of an output, in order, or None where it isn't the file of known packets, byte for byte."""
+    """The packets of an output, in order, or None where it isn't the file of known packets, byte
+    for byte."""
     frames, _ = frames_of(data)
     found = [known.get(key_of(*divmod(frame.time, SECOND))) for frame in frames]
     packets = [packet for packet in found if packet]
@@ -128,7 +148,8 @@ def output_packets(data: bytes, known: dict[tuple[int, int], Passing]) -> list[P
 
 
 def output_faults(run: Arriving, outputs: list[list[Passing]]) -> Iterator[str]:
-    """What is wrong with the packets of the outputs: twice, out of order, or at a member that the mode doesn't allow."""
+    """What is wrong with the packets of the outputs: twice, out of order, or at a member that
+    the mode doesn't allow."""
     seen: set[tuple[int, int]] = set()
     for member, packets in enumerate(outputs):
         last: dict[int, int] = {}
@@ -145,9 +166,12 @@ def output_faults(run: Arriving, outputs: list[list[Passing]]) -> Iterator[str]:
 
 
 def dropped_homes(run: Arriving, outputs: list[list[Passing]]) -> Iterator[int | None]:
-    """The home of each packet that is in no output, None where it hangs on the threads. In mode rollover it is the member that kept
-    the packet of its CPU before it, at first 0."""
-    holders = {(packet.cpu, packet.index): member for member, packets in enumerate(outputs) for packet in packets}
+    """The home of each packet that is in no output, None where it hangs on the threads. In mode
+    rollover it is the member that kept the packet of its CPU before it, at first 0."""
+    holders = {
+        (packet.cpu, packet.index): member for member,
+        packets in enumerate(outputs) for packet in packets
+    }
     for passing in run.passing:
         present = 0
         for packet in passing:
@@ -190,8 +214,9 @@ def lb_faults(run: Arriving, numbers: list[Numbers]) -> Iterator[str]:
 
 
 def holds_all(run: Arriving, member: int, moments: Sequence[int]) -> bool:
-    """Whether a member's ring has room for all packets that may come to it, with no block ever given back: two blocks, one after the
-    other, hold more than one block has room for, and each moment may close one early."""
+    """Whether a member's ring has room for all packets that may come to it, with no block ever
+    given back: two blocks, one after the other, hold more than one block has room for, and each
+    moment may close one early."""
     fixed = not run.setup.rolls_over()
     mine = [p for p in run.all() if not fixed or p.home in (None, member)]
     needs = sum(need_of(packet.offer.snap) for packet in mine)
@@ -209,7 +234,8 @@ def plain_ring(run: Arriving, packets: list[Passing]) -> Ring:
 
 
 def block_faults(
-    run: Arriving, packets: list[Passing], found: Numbers, moments: Sequence[int], dump: bytes | None
+    run: Arriving, packets: list[Passing], found: Numbers, moments: Sequence[int],
+    dump: bytes | None
 ) -> Iterator[str]:
     """What is wrong with the blocks of a member, and with its dump, if there is one."""
     if not moments and not found.drops and found.blocks != len(plain_ring(run, packets).done):
@@ -238,11 +264,15 @@ def block_faults(
 
 
 def is_fixed(run: Arriving, moments: Sequence[int]) -> bool:
-    """Whether nothing of a run hangs on the threads: each ring has room for all, and has the packets of one CPU."""
+    """Whether nothing of a run hangs on the threads: each ring has room for all, and has the
+    packets of one CPU."""
     fixed = not run.setup.rolls_over() and run.setup.mode in ("hash", "cpu", "qm")
     owners = [{p.cpu for p in run.all() if p.home == member} for member in range(run.setup.members)]
     alone = len(run.passing) == 1 or fixed and all(len(cpus) < 2 for cpus in owners)
-    return alone and not moments and all(holds_all(run, member, moments) for member in range(run.setup.members))
+    return (
+        alone and not moments
+        and all(holds_all(run, member, moments) for member in range(run.setup.members))
+    )
 
 
 def faults(case: Case, lines: str, files: Files, status: int) -> Iterator[str]:
@@ -253,7 +283,9 @@ def faults(case: Case, lines: str, files: Files, status: int) -> Iterator[str]:
         return
     setup, numbers = run.setup, numbers_of(lines, run)
     names = [f"{setup.prefix}.{member}.pcap" for member in range(setup.members)]
-    dumps = [f"{setup.prefix}.{member}.blk" for member in range(setup.members)] if setup.dump else []
+    dumps = (
+        [f"{setup.prefix}.{member}.blk" for member in range(setup.members)] if setup.dump else []
+    )
     if numbers is None or sorted(files) != sorted(names + dumps):
         yield f"printed {lines!r}, with the files {sorted(files)}"
         return
@@ -286,8 +318,14 @@ def capture_of(numbers: random.Random, cpu: int, most: int) -> bytes:
         if numbers.random() < 0.6:
             frames += datagram(numbers)
         else:
-            kind = numbers.choice([b"\x08\x06", b"\x86\xdd", b"\x81\x00\x00\x01\x08\x00", b"\x88\xa8\x00\x01\x08\x00"])
-            frames.append(frame(numbers.choice([13, 14, 18, 60, 590, 1514, 5000]), kind, numbers.randrange(256)))
+            kind = numbers.choice(
+                [b"\x08\x06", b"\x86\xdd", b"\x81\x00\x00\x01\x08\x00", b"\x88\xa8\x00\x01\x08\x00"]
+            )
+            frames.append(
+                frame(
+                    numbers.choice([13, 14, 18, 60, 590, 1514, 5000]), kind, numbers.randrange(256)
+                )
+            )
     data = header() + b"".join(
         record(data, sec=TIMES * step * at + cpu, fraction=at) for at, data in enumerate(frames)
     )
@@ -308,7 +346,9 @@ def random_case(numbers: random.Random) -> Case:
     listing = numbers.choice([None, None, *FILTERS])
     if listing:
         text += "filter filter.ddd\n"
-    moments = numbers.choice([[], sorted(numbers.randrange(200) for _ in range(numbers.randrange(20)))])
+    moments = numbers.choice(
+        [[], sorted(numbers.randrange(200) for _ in range(numbers.randrange(20)))]
+    )
     if moments:
         text += "ticks ticks.txt\n"
     workers = numbers.choice([0, numbers.randrange(9)])
@@ -321,13 +361,17 @@ def random_case(numbers: random.Random) -> Case:
 
 
 def sum_cases() -> Iterator[Case]:
-    """The largest made frames, written to two captures, for four members: 20,000 packets in all, kept or dropped."""
+    """The largest made frames, written to two captures, for four members: 20,000 packets in all,
+    kept or dropped."""
     frames = list(made_frames(1, 20_000))
     captures = []
     for cpu in range(2):
         data = [frame.data for frame in frames[cpu::2]]
         times = ((TIMES * (at // 1000) + cpu, 1000 * at) for at in range(len(data)))
-        captures.append(header(magic=NANOSECONDS) + b"".join(record(one, sec=s, fraction=n) for one, (s, n) in zip(data, times)))
+        captures.append(
+            header(magic=NANOSECONDS)
+            + b"".join(record(one, sec=s, fraction=n) for one, (s, n) in zip(data, times))
+        )
     group = f"priv 16\nmembers 4\nmode hash\nkey {KEY}\nflag defrag\n"
     for size in ((65536, 64, 2048, 2048), (65536, 4, 2048, 128)):
         for pool in ("", "workers 2\n", "workers 8\n"):
@@ -363,7 +407,8 @@ def make_pipes(inputs: Files, numbers: random.Random) -> None:
 def run_of(
     program: str, case: Case, numbers: random.Random, command: str = "capture"
 ) -> tuple[Outcome | None, str | None]:
-    """The outcome of a run in the present folder. Some have one processor, and some read their captures from pipes."""
+    """The outcome of a run in the present folder. Some have one processor, and some read their
+    captures from pipes."""
     inputs, chance = inputs_of(case), numbers.random()
     save_alone(inputs)
     if chance < 0.2:
@@ -374,7 +419,8 @@ def run_of(
 
 
 def some_outcome(case: Case, numbers: random.Random) -> tuple[str, Files]:
-    """An outcome that threads might have: that of a replay with some schedule, with the moments among its lines."""
+    """An outcome that threads might have: that of a replay with some schedule, with the moments
+    among its lines."""
     captures = [capture or b"" for capture in case.captures]
     cpus, members = len(captures), Setup(case.setup).members
     lines = [f"feed {numbers.randrange(cpus)}\n" for _ in range(sum(map(len, captures)) // 200)]
@@ -400,10 +446,16 @@ def made_wrong(lines: str, files: Files) -> Iterator[tuple[str, str, Files, int]
     yield "a record after the others", lines, {**files, name: data[:24] + rest + first}, 0
     yield "another byte", lines, {**files, name: data[:-1] + bytes([data[-1] ^ 1])}, 0
     yield "another length", lines, {**files, name: data[:36] + bytes([data[36] ^ 1]) + data[37:]}, 0
-    yield "a record at another member", lines, {**files, name: data[:24] + rest, other: files[other] + first}, 0
+    yield "a record at another member", lines, {
+        **files, name: data[:24] + rest, other: files[other] + first
+    }, 0
     yield "a dump less its last block", lines, {**files, "out.0.blk": files["out.0.blk"][:-48]}, 0
-    yield "a status of a block", lines, {**files, "out.0.blk": files["out.0.blk"][:8] + b"\x21" + files["out.0.blk"][9:]}, 0
-    yield "the dumps exchanged", lines, {**files, "out.0.blk": files["out.1.blk"], "out.1.blk": files["out.0.blk"]}, 0
+    yield "a status of a block", lines, {
+        **files, "out.0.blk": files["out.0.blk"][:8] + b"\x21" + files["out.0.blk"][9:]
+    }, 0
+    yield "the dumps exchanged", lines, {
+        **files, "out.0.blk": files["out.1.blk"], "out.1.blk": files["out.0.blk"]
+    }, 0
     yield "no dump", lines, {key: value for key, value in files.items() if key != "out.1.blk"}, 0
     yield "a drop more", lines.replace(" drops 0", " drops 1", 1), files, 0
     yield "a freeze more", lines.replace(" freezes 0", " freezes 1", 1), files, 0
@@ -416,13 +468,22 @@ def made_wrong(lines: str, files: Files) -> Iterator[tuple[str, str, Files, int]
 def right_outcomes() -> Iterator[tuple[Case, Outcome]]:
     """Outcomes of the second program with random schedules, each of which threads might have."""
     numbers = random.Random(5)
-    cases = [case for case in (random_case(numbers) for _ in range(60)) if None not in case.captures]
+    cases = [
+        case
+        for case in (random_case(numbers) for _ in range(60)) if None not in case.captures
+    ]
     return ((case, (*some_outcome(case, numbers), Arriving(case).status())) for case in cases)
 
 
 def wrong_outcomes() -> dict[str, tuple[Case, Outcome]]:
     """Outcomes of a run that were made wrong, by what is wrong with each."""
     text = setup_text(SIZES[0], 2) + "members 2\nmode cpu\ndump yes\n"
-    data = [header() + b"".join(record(frame(60, fill=at), sec=cpu, fraction=at) for at in range(9)) for cpu in range(2)]
+    data = [
+        header() + b"".join(record(frame(60, fill=at), sec=cpu, fraction=at) for at in range(9))
+        for cpu in range(2)
+    ]
     lines, files = second_runs.replay(Setup(text), "", data)
-    return {what: (Case(text, data, None, []), tuple(outcome)) for what, *outcome in made_wrong(lines, files)}
+    return {
+        what: (Case(text, data, None, []), tuple(outcome)) for what,
+        *outcome in made_wrong(lines, files)
+    }

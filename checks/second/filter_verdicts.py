@@ -1,8 +1,9 @@
 #!/usr/bin/env python3
 """Works out, apart from the code, each verdict that the tests of the filter compare with.
 
-The programs and packets are read from the test of documented codes and from the table of filter_table; what an instruction
-does is written down here once more, from the documented meaning of its code. A difference is printed, and fails.
+The programs and packets are read from the test of documented codes and from the table of
+filter_table; what an instruction does is written down here once more, from the documented
+meaning of its code. A difference is printed, and fails.
 """
 from __future__ import annotations
 
@@ -17,7 +18,8 @@ ANSWERS = "crates/filter_table/stdout"
 WORD = 2**32
 
 Program = list[tuple[int, ...]]  # instructions, each with its code, jt, jf and k
-Row = tuple[Program, "Packet", int, str]  # a program, a packet, the verdict that is expected, and a name
+# a program, a packet, the verdict that is expected, and a name
+Row = tuple[Program, "Packet", int, str]
 
 OPERATIONS: dict[int, Callable[[int, int], int | None]] = {
     0x00: lambda a, b: (a + b) % WORD,
@@ -41,13 +43,17 @@ SIZES = {0x00: 4, 0x08: 2, 0x10: 1}
 
 
 class Packet:
-    """What a filter sees: the captured bytes, the length on the wire, and numbers by their ancillary offset."""
+    """What a filter sees: the captured bytes, the length on the wire, and numbers by their
+    ancillary offset."""
 
     def __init__(self, data: bytes, wire: int, facts: dict[int, int] | None = None) -> None:
         self.data, self.wire, self.facts = data, wire, facts or {}
 
     def read(self, place: int, size: int) -> int | None:
-        return int.from_bytes(self.data[place:place + size], "big") if place + size <= len(self.data) else None
+        return (
+            int.from_bytes(self.data[place:place + size], "big") if place + size <= len(self.data)
+            else None
+        )
 
     def load(self, code: int, place: int, x: int) -> int | None:
         """The number of a load that isn't from the memory words, or None past the bytes."""
@@ -131,7 +137,9 @@ def table_rows() -> Iterator[Row]:
         elif line == "end":
             expected = next(answers)[len(name) + 1:].split()
             for number, packet in enumerate(packets):
-                yield program(text), packet, int(expected[number]), f"{TABLE}: frame {number}, {name}"
+                yield program(text), packet, int(
+                    expected[number]
+                ), f"{TABLE}: frame {number}, {name}"
         else:
             text += line + "\n"
 

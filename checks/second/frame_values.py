@@ -9,7 +9,8 @@ import struct
 
 
 def ones_sum(data: bytes) -> int:
-    """The ones' complement sum of 16-bit words with the carry brought round at each step (RFC 1071)."""
+    """The ones' complement sum of 16-bit words with the carry brought round at each step (RFC
+    1071)."""
     total = 0
     for (word,) in struct.iter_unpack(">H", data):
         total += word
@@ -19,11 +20,14 @@ def ones_sum(data: bytes) -> int:
 
 
 def built(
-    to: bytes, source_mac: bytes, ident: int, source: int, dest: int, sport: int, dport: int, payload: bytes
+    to: bytes, source_mac: bytes, ident: int, source: int, dest: int, sport: int, dport: int,
+    payload: bytes
 ) -> bytes:
     """A UDP datagram of IPv4 in an Ethernet frame."""
     udp = struct.pack(">HHHH", sport, dport, 8 + len(payload), 0)
-    head = struct.pack(">BBHHHBBHII", 0x45, 0, 20 + len(udp) + len(payload), ident, 0x4000, 64, 17, 0, source, dest)
+    head = struct.pack(
+        ">BBHHHBBHII", 0x45, 0, 20 + len(udp) + len(payload), ident, 0x4000, 64, 17, 0, source, dest
+    )
     checksum = 0xFFFF ^ ones_sum(head)
     head = head[:10] + struct.pack(">H", checksum) + head[12:]
     assert ones_sum(head) == 0xFFFF
@@ -51,6 +55,8 @@ if __name__ == "__main__":
     say(VIEW, array(small[:14]))
     say(VIEW, array(small[14:34]))
     say(VIEW, array(small[34:]))
-    large = built(TO, FROM, 0xFFFF, address("10.0.255.255"), address("10.1.0.255"), 5119, 53, bytes(1472))
+    large = built(
+        TO, FROM, 0xFFFF, address("10.0.255.255"), address("10.1.0.255"), 5119, 53, bytes(1472)
+    )
     say(VIEW, array(large[14:34]))
     say(VIEW, array(large[34:42]))

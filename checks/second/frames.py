@@ -1,5 +1,5 @@
-"""Frames for the second program: what a capture gives, what the kernel reads in a frame, how it hashes flows and puts fragments
-together, and the file that packets are saved in."""
+"""Frames for the second program: what a capture gives, what the kernel reads in a frame, how it
+hashes flows and puts fragments together, and the file that packets are saved in."""
 from __future__ import annotations
 
 from collections.abc import Iterable
@@ -33,7 +33,10 @@ class Frame(NamedTuple):
 def frames_of(data: bytes, cpu: int = 0) -> tuple[list[Frame], str]:
     """The frames of a capture, and the word for how it ends."""
     frames, end = capture_frames.frames_of(data)
-    return [Frame(cpu, frame.index, *divmod(frame.time, NANOSECONDS), frame.wire, frame.data) for frame in frames], end
+    return [
+        Frame(cpu, frame.index, *divmod(frame.time, NANOSECONDS), frame.wire, frame.data)
+        for frame in frames
+    ], end
 
 
 def output_of(packets: Iterable[Frame]) -> bytes:
@@ -103,15 +106,21 @@ def v4_of(data: bytes) -> Header | None:
     if length < 20 or len(data) < 14 + length or total < length:
         return None
     flags = number(data, 20, 2)
-    return Header(length, total, number(data, 18, 2), bool(flags & 0x2000), flags & 0x1FFF, data[23])
+    return Header(
+        length, total, number(data, 18, 2), bool(flags & 0x2000), flags & 0x1FFF, data[23]
+    )
 
 
 def flow_input(data: bytes) -> bytes:
-    """Both addresses and, where they are there, both ports, the smaller end first; nothing of what isn't IP."""
+    """Both addresses and, where they are there, both ports, the smaller end first; nothing of
+    what isn't IP."""
     v4 = v4_of(data)
     if v4:
         near, far, behind = data[26:30], data[30:34], 14 + v4.length
-        has_ports = v4.protocol in (TCP, UDP) and not v4.has_more and v4.offset == 0 and len(data) >= behind + 4
+        has_ports = (
+            v4.protocol in (TCP, UDP) and not v4.has_more and v4.offset == 0
+            and len(data) >= behind + 4
+        )
     elif number(data, 12, 2) == IPV6 and len(data) >= 54 and data[14] >> 4 == 6:
         near, far, behind = data[22:38], data[38:54], 54
         has_ports = data[20] in (TCP, UDP) and len(data) >= 58
@@ -146,14 +155,20 @@ class Fragment:
     frame: Frame
 
     def is_copy_of(self, other: Fragment) -> bool:
-        mine, others = (self.start, self.end, self.is_last, self.data), (other.start, other.end, other.is_last, other.data)
+        mine, others = (self.start, self.end, self.is_last, self.data), (
+            other.start, other.end, other.is_last, other.data
+        )
         return mine == others
 
     def clashes_with(self, other: Fragment) -> bool:
-        """Whether it overlaps another one of its datagram, or they don't agree on where that ends."""
+        """Whether it overlaps another one of its datagram, or they don't agree on where that
+        ends."""
         overlaps = other.start < self.end and self.start < other.end
         ends_early = other.is_last and self.end > other.end
-        return overlaps or ends_early or self.is_last and (other.is_last and other.end != self.end or other.end > self.end)
+        return (
+            overlaps or ends_early
+            or self.is_last and (other.is_last and other.end != self.end or other.end > self.end)
+        )
 
 
 class Reassembly:
@@ -163,7 +178,8 @@ class Reassembly:
         self.held: list[Fragment] = []
 
     def push(self, frame: Frame) -> Frame | None:
-        """A frame that is no fragment, as it is; the datagram that a fragment makes whole; or nothing."""
+        """A frame that is no fragment, as it is; the datagram that a fragment makes whole; or
+        nothing."""
         part = self.part_of(frame)
         if part is None:
             return frame
@@ -183,9 +199,13 @@ class Reassembly:
         return self.whole(sorted(mates, key=lambda mate: mate.start), frame)
 
     def make_room(self, part: Fragment) -> None:
-        """Loses the datagrams whose time is over, and the oldest one where a new one finds no room."""
+        """Loses the datagrams whose time is over, and the oldest one where a new one finds no
+        room."""
         for name in self.names():
-            if next(other.frame.sec for other in self.held if other.name == name) + HELD_SECONDS <= part.frame.sec:
+            if next(
+                other.frame.sec
+                for other in self.held if other.name == name
+            ) + HELD_SECONDS <= part.frame.sec:
                 self.lose(name)
         names = self.names()
         if part.name not in names and len(names) == HELD_DATAGRAMS:
@@ -208,7 +228,10 @@ class Reassembly:
         if len(data) < 14 + v4.total or length == 0 or is_odd or start + length > LONGEST_DATAGRAM:
             return None
         name = data[26:34], v4.protocol, v4.ident
-        return Fragment(name, start, start + length, not v4.has_more, data[14 + v4.length : 14 + v4.total], frame)
+        return Fragment(
+            name, start, start + length, not v4.has_more, data[14 + v4.length : 14 + v4.total],
+            frame
+        )
 
     @staticmethod
     def whole(mates: list[Fragment], frame: Frame) -> Frame:

@@ -26,7 +26,9 @@ def toeplitz(data: bytes) -> int:
 
 def ends(source: str, dest: str, sport: int, dport: int) -> bytes:
     """The two ends, the smaller first."""
-    near, far = sorted([(ipaddress.ip_address(source).packed, sport), (ipaddress.ip_address(dest).packed, dport)])
+    near, far = sorted(
+        [(ipaddress.ip_address(source).packed, sport), (ipaddress.ip_address(dest).packed, dport)]
+    )
     return near[0] + far[0] + struct.pack(">HH", near[1], far[1])
 
 
@@ -42,7 +44,8 @@ def say(value: int) -> None:
     print(f"{TESTS}\t0x{text[:4]}_{text[4:]}")
 
 
-# The verification suite of receive side scaling: source, destination, their ports, the two published values.
+# The verification suite of receive side scaling: source, destination, their ports, the two
+# published values.
 SUITE = [
     ("66.9.149.187", "161.142.100.80", 2794, 1766, 0x323E8FC2, 0x51CCC178),
     ("199.92.111.2", "65.69.140.83", 14230, 4739, 0xD718262A, 0xC626B0EA),
@@ -51,7 +54,10 @@ SUITE = [
     ("153.39.163.191", "202.188.127.2", 44251, 1303, 0x5D1809C5, 0x10E828A2),
     ("3ffe:2501:200:1fff::7", "3ffe:2501:200:3::1", 2794, 1766, 0x2CC18CD5, 0x40207D3D),
     ("3ffe:501:8::260:97ff:fe40:efab", "ff02::1", 14230, 4739, 0x0F0C461C, 0xDDE51BBF),
-    ("3ffe:1900:4545:3:200:f8ff:fe21:67cf", "fe80::200:f8ff:fe21:67cf", 44251, 38024, 0x4B61E985, 0x02D1FEEF),
+    (
+        "3ffe:1900:4545:3:200:f8ff:fe21:67cf", "fe80::200:f8ff:fe21:67cf", 44251, 38024, 0x4B61E985,
+        0x02D1FEEF
+    ),
 ]
 # Flows: in the order of their ends.
 FLOWS = [

@@ -1,14 +1,18 @@
-"""Captures that somebody made to do harm: a program answers each of them with the end and the place that the second program works out,
-and by work that the bytes allow.
+"""Captures that somebody made to do harm: a program answers each of them with the end and the
+place that the second program works out, and by work that the bytes allow.
 
-Each length field of each record is put to its extremes, and each header of the file and of a record is cut at each byte; each of
-these captures is replayed, sent and captured on threads. Others have some bytes changed at random, and are replayed, sent or captured by turns. Then captures of the forms that ask most of each byte (records without a byte,
-fragments that are never put together, and others) are replayed and sent at one size and at twice that size: the processor's
-instructions for the second, as valgrind counts them, and the pages of memory that it touches are at most GROWTH times those for the
-first. Both are counts, so the machine's load changes neither. On threads these captures have to end. At last a fragment of a datagram
-of MANY may take at most DEARER times the instructions of a fragment of a datagram of FEW.
+Each length field of each record is put to its extremes, and each header of the file and of a
+record is cut at each byte; each of these captures is replayed, sent and captured on threads.
+Others have some bytes changed at random, and are replayed, sent or captured by turns. Then
+captures of the forms that ask most of each byte (records without a byte, fragments that are
+never put together, and others) are replayed and sent at one size and at twice that size: the
+processor's instructions for the second, as valgrind counts them, and the pages of memory that it
+touches are at most GROWTH times those for the first. Both are counts, so the machine's load
+changes neither. On threads these captures have to end. At last a fragment of a datagram of MANY
+may take at most DEARER times the instructions of a fragment of a datagram of FEW.
 
-A run on threads has a ring that holds everything, with the frames of one CPU for each member, so it gives what a replay gives.
+A run on threads has a ring that holds everything, with the frames of one CPU for each member, so
+it gives what a replay gives.
 """
 from __future__ import annotations
 
@@ -29,32 +33,41 @@ from second.outcomes import found_wrong
 from second.replays import SIZES, Case, Shape, frame, setup_text
 from second.program import save
 
-EXTREMES = [0, 1, 13, 14, 17, 18, 262_143, 262_144, 262_145, 2**31 - 1, 2**31, 2**32 - 16, 2**32 - 1]
+EXTREMES = [
+    0, 1, 13, 14, 17, 18, 262_143, 262_144, 262_145, 2**31 - 1, 2**31, 2**32 - 16, 2**32 - 1
+]
 
 COMMANDS = ["replay", "send", "capture", "replay2"]
 
 # A ring that holds all frames of a capture of less than 10,000 bytes.
 ROOMY: Shape = (65536, 16, 2048, 512)
 
-# The larger of the two sizes whose work is compared, the most that the work may grow by, and the pages by which it may grow in any
-# case, since a list that doubles touches more at once. A thread that waits works too, so of a run on threads only the end is tested.
+# The larger of the two sizes whose work is compared, the most that the work may grow by, and the
+# pages by which it may grow in any case, since a list that doubles touches more at once. A thread
+# that waits works too, so of a run on threads only the end is tested.
 LARGE, GROWTH, FEW_PAGES = 8_388_608, 2.2, 100
 
-# The fragments of the datagrams that are compared, how many fragments each capture of them has, and how much dearer one may be.
+# The fragments of the datagrams that are compared, how many fragments each capture of them has, and
+# how much dearer one may be.
 FEW, MANY, FRAGMENTS, DEARER = 500, 8_000, 16_000, 3
 
 
 def base(order: str) -> bytes:
     """A capture of some frames: plain, tagged, a fragment, a runt and an empty one."""
     fragment = frame(14) + bytes.fromhex("4500002812342000401100000a0000010a000002") + bytes(20)
-    frames = [frame(60), frame(64, b"\x81\x00\x00\x64\x08\x00"), fragment, frame(13), b"", frame(590)]
+    frames = [
+        frame(60), frame(64, b"\x81\x00\x00\x64\x08\x00"), fragment, frame(13), b"", frame(590)
+    ]
     return header(order) + b"".join(record(data, order) for data in frames)
 
 
 def section(order: str) -> bytes:
-    """A section with two interfaces, of microseconds and of nanoseconds, and packets of both, one of no interface, and another block."""
+    """A section with two interfaces, of microseconds and of nanoseconds, and packets of both,
+    one of no interface, and another block."""
     blocks = [section_header(order), interface(order), interface(order, 9, 40)]
-    for number, data in [(0, frame(60)), (1, frame(64, b"\x81\x00\x00\x64\x08\x00")), (1, frame(13))]:
+    for number, data in [
+        (0, frame(60)), (1, frame(64, b"\x81\x00\x00\x64\x08\x00")), (1, frame(13))
+    ]:
         blocks.append(enhanced(order, number, (1 << 32) + 2_000_000_000, data))
     return b"".join([*blocks, block(order, 0x0BAD, bytes(21)), simple(order, frame(59))])
 
@@ -103,7 +116,8 @@ def extremes() -> Iterator[bytes]:
 
 
 def cuts() -> Iterator[bytes]:
-    """A capture that ends at each byte of each header, and at the first and the last byte of the data after it."""
+    """A capture that ends at each byte of each header, and at the first and the last byte of the
+    data after it."""
     for order in "<>":
         capture = base(order)
         ends = set(range(25))
@@ -135,7 +149,9 @@ def case_of(command: str, capture: bytes, numbers: random.Random) -> Case:
         return Case("send", text, captures=[capture])
     if command in ("replay", "replay2"):
         flags = numbers.choice(["", "members 2\nflag rollover\n", "flag defrag\n", "dump yes\n"])
-        return Case(command, setup_text(numbers.choice(SIZES)) + flags, "feed 0\nread 0\n", [capture])
+        return Case(
+            command, setup_text(numbers.choice(SIZES)) + flags, "feed 0\nread 0\n", [capture]
+        )
     cpus = numbers.choice([1, 1, 2])
     flags = f"members {cpus}\n" + numbers.choice(["", "flag defrag\n", "dump yes\n", "workers 2\n"])
     return Case("capture", setup_text(ROOMY, cpus) + flags, captures=[capture, base("<")][:cpus])
@@ -155,29 +171,44 @@ def wrong_of(program: str, cases: list[Case]) -> list[str]:
     wrong = []
     for case in cases:
         if whys := found_wrong(replays.faults, case, lambda case: replays.run_of(program, case)):
-            wrong.append(f"{case.command}, setup {case.setup!r}, capture {case.captures[0].hex()}: {'; '.join(whys[:3])}")
+            wrong.append(
+                f"{case.command}, setup {case.setup!r}, capture {case.captures[0].hex()}: "
+                f"{'; '.join(whys[:3])}"
+            )
     return wrong
 
 
 def fragment(ident: int, offset: int, more: bool, data: bytes) -> bytes:
-    """A fragment of an IPv4 datagram: its offset in units of eight bytes, and whether more follow."""
-    head = struct.pack(">BBHHHBBH", 0x45, 0, 20 + len(data), ident % 65536, offset + 0x2000 * more, 64, 17, 0)
+    """A fragment of an IPv4 datagram: its offset in units of eight bytes, and whether more
+    follow."""
+    head = struct.pack(
+        ">BBHHHBBH", 0x45, 0, 20 + len(data), ident % 65536, offset + 0x2000 * more, 64, 17, 0
+    )
     return frame(14) + head + bytes.fromhex("0a0000010a000002") + data
 
 
 def first_lost(count: int) -> Callable[[int], bytes]:
-    """Datagrams of so many fragments of eight bytes, in order, each without its first: the frame of a number."""
+    """Datagrams of so many fragments of eight bytes, in order, each without its first: the frame
+    of a number."""
     return lambda at: fragment(at // count, 1 + at % count, at % count < count - 1, bytes(8))
 
 
-# The forms that ask most of each byte of a capture: the frame of a number, and the lines of the setup.
+# The forms that ask most of each byte of a capture: the frame of a number, and the lines of the
+# setup.
 FORMS: dict[str, tuple[Callable[[int], bytes], str]] = {
-    "records without a byte": (lambda at: b"", ""),
-    "runts": (lambda at: frame(13), ""),
-    "frames of 14 bytes for members that are full": (lambda at: frame(14), "members 8\nmode rollover\n"),
-    "tagged frames": (lambda at: frame(18, b"\x81\x00\x00\x64\x08\x00"), "members 8\nmode lb\nflag rollover\n"),
-    "fragments of datagrams that never end": (lambda at: fragment(at, 1, True, bytes(8)), "flag defrag\n"),
-    "fragments that overlap": (lambda at: fragment(at // 3, at % 3, True, bytes(16)), "flag defrag\n"),
+    "records without a byte": (lambda at: b"", ""), "runts": (lambda at: frame(13), ""),
+    "frames of 14 bytes for members that are full": (
+        lambda at: frame(14), "members 8\nmode rollover\n"
+    ),
+    "tagged frames": (
+        lambda at: frame(18, b"\x81\x00\x00\x64\x08\x00"), "members 8\nmode lb\nflag rollover\n"
+    ),
+    "fragments of datagrams that never end": (
+        lambda at: fragment(at, 1, True, bytes(8)), "flag defrag\n"
+    ),
+    "fragments that overlap": (
+        lambda at: fragment(at // 3, at % 3, True, bytes(16)), "flag defrag\n"
+    ),
     f"datagrams of {FEW} fragments of which the first is lost": (first_lost(FEW), "flag defrag\n"),
 }
 
@@ -196,7 +227,8 @@ def write_form(data_of: Callable[[int], bytes]) -> None:
     save(".", {"half.pcap": whole[:half], "whole.pcap": whole})
 
 
-# A run that takes fewer seconds is one that takes as many, so that starting a process counts for nothing.
+# A run that takes fewer seconds is one that takes as many, so that starting a process counts for
+# nothing.
 FEW_SECONDS, TRIES = 0.15, 5
 
 
@@ -212,16 +244,22 @@ def usage_of(words: list[str]) -> resource.struct_rusage:
 
 
 def work_of(words: list[str]) -> tuple[int | None, str | None]:
-    """The work of a run, and None; or None, and what is wrong with how it ends. Work is instructions as valgrind counts them, or where
-    it isn't there the least user time in microseconds."""
+    """The work of a run, and None; or None, and what is wrong with how it ends. Work is
+    instructions as valgrind counts them, or where it isn't there the least user time in
+    microseconds."""
     if not shutil.which("valgrind"):
         return int(1_000_000 * seconds_of(words)), None
-    tool = ["valgrind", "--tool=cachegrind", "--cache-sim=no", "--cachegrind-out-file=/dev/null", "--vgdb=no"]
+    tool = [
+        "valgrind", "--tool=cachegrind", "--cache-sim=no", "--cachegrind-out-file=/dev/null",
+        "--vgdb=no"
+    ]
     ran, why = running.run([*tool, *words], text=True)
     if ran is None or ran.returncode:
         return None, f"status {ran.returncode}" if ran else why
     counted = re.search(r"I\s+refs:\s+([\d,]+)", ran.stderr)
-    return (int(counted[1].replace(",", "")), None) if counted else (None, "valgrind counts nothing of it")
+    return (int(counted[1].replace(",", "")), None) if counted else (
+        None, "valgrind counts nothing of it"
+    )
 
 
 def pages_of(words: list[str]) -> int:
@@ -251,7 +289,10 @@ def grows(program: str, command: str, name: str, lines: str) -> str | None:
     )
     print(f"{name}, {command}: {told}", flush=True)
     if counts[1] > GROWTH * counts[0] or pages[1] > GROWTH * pages[0] + FEW_PAGES:
-        return f"{name}, {command}: the work grows by {counts[1] / counts[0]:.2f}, the pages by {pages[1] / pages[0]:.2f}"
+        return (
+            f"{name}, {command}: the work grows by {counts[1] / counts[0]:.2f}, the pages by "
+            f"{pages[1] / pages[0]:.2f}"
+        )
     return None
 
 
@@ -265,7 +306,8 @@ def ends_on_threads(program: str, name: str, lines: str) -> str | None:
 
 
 def long_datagrams_cost(program: str) -> str | None:
-    """What is wrong with the instructions for fragments of long datagrams beside those for as many of short ones, if something is."""
+    """What is wrong with the instructions for fragments of long datagrams beside those for as
+    many of short ones, if something is."""
     each = []
     for size in (FEW, MANY):
         frames = map(first_lost(size), range(FRAGMENTS))
@@ -275,7 +317,10 @@ def long_datagrams_cost(program: str) -> str | None:
         if count is None:
             return f"datagrams of {size:,} fragments, replay: {why}"
         each.append(count // FRAGMENTS)
-    told = f"{each[0]:,} of work for a fragment of a datagram of {FEW}, {each[1]:,} for one of {MANY:,}"
+    told = (
+        f"{each[0]:,} of work for a fragment of a datagram of {FEW}, {each[1]:,} for one of "
+        f"{MANY:,}"
+    )
     print(f"{told}", flush=True)
     return f"{told}: more than {DEARER} times as many" if each[1] > DEARER * each[0] else None
 
@@ -290,6 +335,8 @@ def whys_of_form(program: str, name: str) -> Iterator[str]:
 
 
 def refuse_huge_pages() -> None:
-    """Gives this process and those that it starts pages of one size alone. The system makes huge pages of as many as are free at the
-    moment, so with them the pages that a run touches would be a matter of the machine's load."""
-    ctypes.CDLL(None).prctl(41, 1, 0, 0, 0)  # PR_SET_THP_DISABLE, which processes that are started inherit
+    """Gives this process and those that it starts pages of one size alone. The system makes huge
+    pages of as many as are free at the moment, so with them the pages that a run touches would
+    be a matter of the machine's load."""
+    # PR_SET_THP_DISABLE, which processes that are started inherit
+    ctypes.CDLL(None).prctl(41, 1, 0, 0, 0)

@@ -26,7 +26,8 @@ def made(seed: int, count: int) -> Iterator[bytes]:
         a, b, c, d = (next(numbers) for _ in range(4))
         payload = bytes((i + j) % 256 for j in range(d % 1401))
         yield built(
-            TO, FROM, i % 65536, address("10.0.0.0") + a % 65536, address("10.1.0.0") + b % 256, 1024 + c % 4096, 53, payload
+            TO, FROM, i % 65536, address("10.0.0.0") + a % 65536, address("10.1.0.0") + b % 256,
+            1024 + c % 4096, 53, payload
         )
 
 

@@ -1,8 +1,8 @@
-"""Captures by a program that may make no thread, by a limit of one process for its user: each has to end, with the lines and files that
-it may have with threads.
+"""Captures by a program that may make no thread, by a limit of one process for its user: each
+has to end, with the lines and files that it may have with threads.
 
-As root the program runs as a user who has no process else, since root has no such limit. The program and the folder that it runs in
-have to be of use to every user.
+As root the program runs as a user who has no process else, since root has no such limit. The
+program and the folder that it runs in have to be of use to every user.
 """
 from __future__ import annotations
 

@@ -1,7 +1,9 @@
-"""How outcomes of runs are made and tested: those that have to pass, those that were made wrong, and those of a program.
+"""How outcomes of runs are made and tested: those that have to pass, those that were made wrong,
+and those of a program.
 
-An outcome is what a run printed, the files that it saved and its status; `faults(case, *outcome)` gives what is wrong with it.
-`run(case)` gives an outcome and None, or None and what is wrong with how the run ends.
+An outcome is what a run printed, the files that it saved and its status; `faults(case,
+*outcome)` gives what is wrong with it. `run(case)` gives an outcome and None, or None and what
+is wrong with how the run ends.
 """
 from __future__ import annotations
 
@@ -19,7 +21,8 @@ Outcome = tuple[str, Files, int]
 
 
 class Case(Protocol):
-    """A run: its setup, the captures of the CPUs from 0 up (None for one that isn't there), and the text of its filter."""
+    """A run: its setup, the captures of the CPUs from 0 up (None for one that isn't there), and
+    the text of its filter."""
 
     @property
     def setup(self) -> str: ...
@@ -51,7 +54,9 @@ def refused(faults: Faults[CaseOf], outcomes: Iterable[tuple[CaseOf, Outcome]]) 
 def inputs_of(case: Case) -> Files:
     """The setup, the captures and the filter of a case, by the names of their files."""
     inputs = {"conf": case.setup.encode()}
-    inputs.update((f"in{cpu}.pcap", data) for cpu, data in enumerate(case.captures) if data is not None)
+    inputs.update(
+        (f"in{cpu}.pcap", data) for cpu, data in enumerate(case.captures) if data is not None
+    )
     if case.listing:
         inputs["filter.ddd"] = case.listing.encode()
     return inputs
@@ -65,7 +70,8 @@ def save_alone(inputs: Files) -> None:
 
 
 def outcome_of(words: list[str], inputs: Files, **how: Any) -> tuple[Outcome | None, str | None]:
-    """The outcome of a run in the present folder, in which these files alone are, and None; or None, and what is wrong."""
+    """The outcome of a run in the present folder, in which these files alone are, and None; or
+    None, and what is wrong."""
     ran, why = running.run(words, **how)
     if ran is None:
         return None, why
@@ -95,7 +101,10 @@ def wrong_runs(kind: str, faults: Faults[CaseOf], cases: Iterable[CaseOf], run: 
             if found:
                 wrong += 1
                 sizes = [capture and len(capture) for capture in case.captures]
-                print(f"run {count}, captures by their sizes, {case._replace(captures=sizes)}: {'; '.join(found[:3])}")
+                print(
+                    f"run {count}, captures by their sizes, {case._replace(captures=sizes)}: "
+                    f"{'; '.join(found[:3])}"
+                )
         os.chdir(before)
     print(f"{count} {kind}, {wrong} of them wrong")
     return wrong

@@ -1,19 +1,21 @@
 #!/usr/bin/env python3
-"""A second program over the same rules: what ringtap's runs have to print and to save, worked out apart from its code.
+"""A second program over the same rules: what ringtap's runs have to print and to save, worked
+out apart from its code.
 
-    second_program.py replay SETUP SCHEDULE [FOLDER]   prints the lines, and writes the files that are saved below a folder
+    second_program.py replay SETUP SCHEDULE [FOLDER]   prints the lines, and saves the files there
     second_program.py replay2 SETUP SCHEDULE [FOLDER]  the same over rings of TPACKET_V2
-    second_program.py capture SETUP [FOLDER]           the same of a run on threads of which nothing hangs on them
-    second_program.py make SETUP [FOLDER]              the same of frames that are made from the setup's number
-    second_program.py send SETUP [FOLDER]              the same of a capture that is sent through a transmit ring
+    second_program.py capture SETUP [FOLDER]           of threads of which nothing hangs on them
+    second_program.py make SETUP [FOLDER]              of frames made from the setup's number
+    second_program.py send SETUP [FOLDER]              of a capture sent through a transmit ring
     second_program.py --demo                           writes demo/expected anew
 
-Nothing of a run on threads hangs on them where it tells no moment, and each ring has the packets of one CPU and room for all of
-them: it then gives what a replay with an empty schedule gives. captures.py tests all others.
+Nothing of a run on threads hangs on them where it tells no moment, and each ring has the packets
+of one CPU and room for all of them: it then gives what a replay with an empty schedule gives.
+captures.py tests all others.
 
-It follows docs/reference.md and the definitions of the crates' specs/ with lists and slices, for texts that are accepted: setups
-are in setup.py, frames in frames.py, rings in rings.py and runs in runs.py. Paths in a setup count
-from the folder in which this is run, as they do for ringtap.
+It follows docs/reference.md and the definitions of the crates' specs/ with lists and slices, for
+texts that are accepted: setups are in setup.py, frames in frames.py, rings in rings.py and runs
+in runs.py. Paths in a setup count from the folder in which this is run, as they do for ringtap.
 """
 from __future__ import annotations
 
@@ -26,7 +28,8 @@ from second.rings import Ring, SlotRing
 from second.runs import Files, make, replay, send
 from second.setup import Setup
 
-TEXTS = {"replay": 2, "replay2": 2, "make": 1, "send": 1, "capture": 1}  # how many texts a command reads
+# how many texts a command reads
+TEXTS = {"replay": 2, "replay2": 2, "make": 1, "send": 1, "capture": 1}
 DEMO = {
     "setup": ["replay", "demo/setup.txt", "demo/schedule.txt"],
     "small": ["replay", "demo/small.txt", "demo/schedule.txt"],

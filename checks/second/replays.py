@@ -1,6 +1,8 @@
-"""Runs of many kinds, what the second program works out for them, and what a program's outcome lacks of it.
+"""Runs of many kinds, what the second program works out for them, and what a program's outcome
+lacks of it.
 
-Tables of runs that were worked out with pencil and paper stand before them, so that the second program is compared too.
+Tables of runs that were worked out with pencil and paper stand before them, so that the second
+program is compared too.
 """
 from __future__ import annotations
 
@@ -23,7 +25,8 @@ Shape = tuple[int, int, int, int]  # of a ring: block_size, block_nr, frame_size
 
 
 class Case(NamedTuple):
-    """A run: its command, its setup and schedule, the captures of the CPUs from 0 up, and the text of its filter, if it has one."""
+    """A run: its command, its setup and schedule, the captures of the CPUs from 0 up, and the
+    text of its filter, if it has one."""
 
     command: str
     setup: str
@@ -33,16 +36,22 @@ class Case(NamedTuple):
 
 
 FEW_STEPS = "feed 0\nread 0\nfeed 0\nfeed 0\n"
-SIZES: list[Shape] = [(4096, 2, 2048, 4), (4096, 3, 128, 96), (8192, 2, 2048, 8), (65536, 4, 2048, 128)]
+SIZES: list[Shape] = [
+    (4096, 2, 2048, 4), (4096, 3, 128, 96), (8192, 2, 2048, 8), (65536, 4, 2048, 128)
+]
 
 
 def frame(size: int, kind: bytes = b"\x08\x00", fill: int = 0) -> bytes:
     """A frame of so many bytes, or the front of one."""
-    return (bytes.fromhex("020000000002" "020000000001") + kind + bytes((fill + i) % 256 for i in range(size)))[:size]
+    return (
+        bytes.fromhex("020000000002" "020000000001") + kind
+        + bytes((fill + i) % 256 for i in range(size))
+    )[:size]
 
 
 def small_captures() -> Iterator[bytes]:
-    """Captures of few frames: plain and tagged ones in each form, cut ones, and ones that are refused."""
+    """Captures of few frames: plain and tagged ones in each form, cut ones, and ones that are
+    refused."""
     plain = [frame(size, fill=size) for size in (60, 590, 1514, 9000, 3966, 3967, 14, 13, 0, 15)]
     tagged = [
         frame(64, b"\x81\x00\x00\x64\x08\x00"),
@@ -54,7 +63,10 @@ def small_captures() -> Iterator[bytes]:
     for order in "<>":
         for magic in (MICROSECONDS, NANOSECONDS):
             yield header(order, magic) + b"".join(record(data, order) for data in plain + tagged)
-    yield header() + record(frame(60), original=1514) + record(frame(60), original=10) + record(frame(60), fraction=10**6)
+    yield (
+        header() + record(frame(60), original=1514) + record(frame(60), original=10)
+        + record(frame(60), fraction=10**6)
+    )
     yield header(link=0xF0000001) + record(frame(60), fraction=4_294_967_295)
     yield header() + record(frame(64, b"\x81\x00\x00\x01\x08\x00"), original=4_294_967_295)
     yield header()
@@ -71,9 +83,9 @@ def small_captures() -> Iterator[bytes]:
     yield header("<")[:4] + header(">")[4:] + record(frame(60))
 
 
-# The lengths of the frames, the schedule, and what follows from the rules of a ring of two blocks of 4096 bytes: a packet
-# takes 82 bytes and its data, rounded up to 8, of the 4048 that a block has for packets. Kept, drops, freezes, blocks, and
-# the length of the output.
+# The lengths of the frames, the schedule, and what follows from the rules of a ring of two blocks
+# of 4096 bytes: a packet takes 82 bytes and its data, rounded up to 8, of the 4048 that a block has
+# for packets. Kept, drops, freezes, blocks, and the length of the output.
 WORKED = [
     ([60] * 3, "feed 0\n" * 3, (3, 0, 0, 1), 252),
     ([], "", (0, 0, 0, 0), 24),
@@ -100,8 +112,8 @@ def worked_cases() -> Iterator[tuple[Case, str, int]]:
         yield Case("replay", setup_text(SIZES[0]), schedule, [capture]), lines, length
 
 
-# The same over a ring of four slots of 2048 bytes: a slot has one packet and keeps 1982 bytes of it. Kept, drops, slots, and
-# the length of the output.
+# The same over a ring of four slots of 2048 bytes: a slot has one packet and keeps 1982 bytes of
+# it. Kept, drops, slots, and the length of the output.
 SLOTS_WORKED = [
     ([60] * 6, "feed 0\n" * 5 + "read 0\n" + "feed 0\n", (5, 1, 5), 24 + 5 * 76),
     ([3000], "", (1, 0, 1), 24 + 16 + 1982),
@@ -136,10 +148,16 @@ def large_captures() -> Iterator[bytes]:
 def random_capture(numbers: random.Random) -> bytes:
     records = []
     for _ in range(numbers.randrange(80)):
-        kind = numbers.choice([b"\x08\x00", b"\x86\xdd", b"\x81\x00\x00\x01\x08\x00", b"\x88\xa8\x00\x01\x08\x00"])
-        size = numbers.choice([numbers.randrange(90), numbers.randrange(1600), 1514, 60, numbers.randrange(5000)])
+        kind = numbers.choice(
+            [b"\x08\x00", b"\x86\xdd", b"\x81\x00\x00\x01\x08\x00", b"\x88\xa8\x00\x01\x08\x00"]
+        )
+        size = numbers.choice(
+            [numbers.randrange(90), numbers.randrange(1600), 1514, 60, numbers.randrange(5000)]
+        )
         data = frame(size, kind, numbers.randrange(256))
-        records.append(record(data, sec=numbers.randrange(2**32), fraction=numbers.randrange(10**6)))
+        records.append(
+            record(data, sec=numbers.randrange(2**32), fraction=numbers.randrange(10**6))
+        )
     data = header() + b"".join(records)
     return data[: numbers.randrange(len(data))] if numbers.random() < 0.2 else data
 
@@ -153,21 +171,28 @@ def random_schedule(numbers: random.Random, cpus: int = 1, members: int = 1) -> 
             lines.append(f"read {numbers.randrange(members)}\n")
         elif chance < reads + 0.1 and members > 1:
             clock += numbers.randrange(6)
-            lines.append(numbers.choice([f"tick {clock}\n", f"stats {numbers.randrange(members)}\n"]))
+            lines.append(
+                numbers.choice([f"tick {clock}\n", f"stats {numbers.randrange(members)}\n"])
+            )
         else:
             lines.append(f"feed {numbers.randrange(cpus)}\n")
     return "".join(lines)
 
 
 def datagram(numbers: random.Random) -> list[bytes]:
-    """A UDP datagram of IPv4, whole or in fragments, which may be out of order, lost, doubled or overlapping."""
+    """A UDP datagram of IPv4, whole or in fragments, which may be out of order, lost, doubled or
+    overlapping."""
     addresses = bytes([10, 0, 0, numbers.randrange(1, 4), 10, 0, 0, numbers.randrange(1, 4)])
-    data = struct.pack(">HHHH", numbers.randrange(1024, 1028), 53, 0, 0) + bytes(numbers.randrange(200))
+    data = struct.pack(">HHHH", numbers.randrange(1024, 1028), 53, 0, 0) + bytes(
+        numbers.randrange(200)
+    )
     ident, size, pieces = numbers.randrange(6), numbers.choice([len(data), 16, 24, 64]), []
     for at in range(0, len(data), -(-size // 8) * 8):
         piece = data[at : at + -(-size // 8) * 8]
         more = at + len(piece) < len(data)
-        head = struct.pack(">BBHHHBBH", 0x45, 0, 20 + len(piece), ident, at // 8 + 0x2000 * more, 64, 17, 0)
+        head = struct.pack(
+            ">BBHHHBBH", 0x45, 0, 20 + len(piece), ident, at // 8 + 0x2000 * more, 64, 17, 0
+        )
         pieces.append(frame(14) + head + addresses + piece)
     if numbers.random() < 0.4:
         numbers.shuffle(pieces)
@@ -185,8 +210,12 @@ def group_capture(numbers: random.Random) -> bytes:
             frames += datagram(numbers)
         else:
             kind = numbers.choice([b"\x08\x06", b"\x86\xdd", b"\x81\x00\x00\x01\x08\x00"])
-            frames.append(frame(numbers.choice([13, 18, 60, 590, 1514]), kind, numbers.randrange(256)))
-    return header() + b"".join(record(data, sec=at * numbers.choice([0, 1, 9])) for at, data in enumerate(frames))
+            frames.append(
+                frame(numbers.choice([13, 18, 60, 590, 1514]), kind, numbers.randrange(256))
+            )
+    return header() + b"".join(
+        record(data, sec=at * numbers.choice([0, 1, 9])) for at, data in enumerate(frames)
+    )
 
 
 FILTERS = [
@@ -203,7 +232,8 @@ BLOCK_LINES = ("features 1", "priv 13", "tov 5")
 
 
 def group_case(
-    numbers: random.Random, sizes: Sequence[Shape] = tuple(SIZES[:3]), further: Sequence[str] = BLOCK_LINES
+    numbers: random.Random, sizes: Sequence[Shape] = tuple(SIZES[:3]),
+    further: Sequence[str] = BLOCK_LINES
 ) -> tuple[str, str, list[bytes], str | None]:
     """A setup of several CPUs and members, with its schedule, captures and filter."""
     cpus, members = numbers.randrange(1, 4), numbers.randrange(2, 5)
@@ -223,21 +253,28 @@ def group_case(
 
 
 # The rings of sent captures: a slot has 2000, 80, 4048, 32 or 1,048,528 bytes of room.
-SLOTS: list[Shape] = [(4096, 2, 2048, 4), (4096, 3, 128, 96), (4096, 2, 4096, 2), (8192, 2, 80, 204), (1_048_576, 3, 1_048_576, 3)]
+SLOTS: list[Shape] = [
+    (4096, 2, 2048, 4), (4096, 3, 128, 96), (4096, 2, 4096, 2), (8192, 2, 80, 204),
+    (1_048_576, 3, 1_048_576, 3)
+]
 # Lines that say nothing to `send`, which reads none of these files.
-UNUSED = "members 3\nmode lb\nflag defrag\nfilter none.ddd\nticks none.txt\ndump yes\nout sent\ntov 0\npriv 0\n"
+UNUSED = (
+    "members 3\nmode lb\nflag defrag\nfilter none.ddd\nticks none.txt\ndump yes\nout sent\ntov "
+    "0\npriv 0\n"
+)
 
-# The lengths of the frames of a capture that is sent through slots of 2000 bytes of room, whether longer ones are skipped,
-# and what follows: how many are sent, how many are skipped, where the ring stops, and the lengths that are saved.
+# The lengths of the frames of a capture that is sent through slots of 2000 bytes of room, whether
+# longer ones are skipped, and what follows: how many are sent, how many are skipped, where the ring
+# stops, and the lengths that are saved.
 SENT: list[tuple[list[int], bool, tuple[int, int, int | str], list[int]]] = [
-    ([60, 3000, 60], False, (1, 0, 1), [60]),
-    ([60, 3000, 60], True, (2, 1, "none"), [60, 60]),
-    ([], False, (0, 0, "none"), []),
-    ([13, 0, 14, 13, 2001, 60], False, (1, 0, 4), [14]),
+    ([60, 3000, 60], False, (1, 0, 1), [60]), ([60, 3000, 60], True, (2, 1, "none"), [60, 60]),
+    ([], False, (0, 0, "none"), []), ([13, 0, 14, 13, 2001, 60], False, (1, 0, 4), [14]),
     ([13, 0, 14, 13, 2001, 60], True, (2, 1, "none"), [14, 60]),
-    ([2000, 1999, 60, 60, 61, 62, 63, 64, 65], False, (9, 0, "none"), [2000, 1999, 60, 60, 61, 62, 63, 64, 65]),
-    ([60] * 4 + [9000], False, (4, 0, 4), [60] * 4),
-    ([9000] * 5, True, (0, 5, "none"), []),
+    (
+        [2000, 1999, 60, 60, 61, 62, 63, 64, 65], False, (9, 0, "none"),
+        [2000, 1999, 60, 60, 61, 62, 63, 64, 65]
+    ),
+    ([60] * 4 + [9000], False, (4, 0, 4), [60] * 4), ([9000] * 5, True, (0, 5, "none"), []),
 ]
 
 
@@ -245,13 +282,16 @@ def sent_cases() -> Iterator[tuple[Case, str, int]]:
     """The table: a case, its lines and the length of its file."""
     for lengths, skips, (sent, skipped, stop), saved in SENT:
         text = setup_text(SIZES[0]) + "skip_bad yes\n" * skips
-        lines = f"cpu 0 frames {len(lengths)} end ok\nsend sent {sent} skipped {skipped} stop {stop}\n"
+        lines = (
+            f"cpu 0 frames {len(lengths)} end ok\nsend sent {sent} skipped {skipped} stop {stop}\n"
+        )
         capture = header() + b"".join(record(frame(size)) for size in lengths)
         yield Case("send", text, captures=[capture]), lines, 24 + sum(16 + size for size in saved)
 
 
 def sends() -> Iterator[Case]:
-    """Captures that are sent, with and without longer frames, runts, tags, cuts, and more frames than slots."""
+    """Captures that are sent, with and without longer frames, runts, tags, cuts, and more frames
+    than slots."""
     numbers = random.Random(2)
     captures = [*small_captures(), *(random_capture(numbers) for _ in range(60))]
     for capture in captures:
@@ -264,7 +304,8 @@ def sends() -> Iterator[Case]:
 
 
 def makes() -> Iterator[Case]:
-    """Frames that are made, for rings that keep them and rings that drop, and for counts round the 64 of its reads."""
+    """Frames that are made, for rings that keep them and rings that drop, and for counts round
+    the 64 of its reads."""
     numbers = random.Random(3)
     for count in (1, 2, 7, 8, 63, 64, 65, 127, 128, 129, 500):
         for cpus in (1, 3, 8):
@@ -279,7 +320,8 @@ def makes() -> Iterator[Case]:
 
 
 def slots() -> Iterator[Case]:
-    """Replays over rings of TPACKET_V2: of one member and of groups, with slots that are small, and of the most slots."""
+    """Replays over rings of TPACKET_V2: of one member and of groups, with slots that are small,
+    and of the most slots."""
     numbers = random.Random(4)
     for _ in range(100):
         text = setup_text(numbers.choice(SLOTS)) + numbers.choice(["", "dump yes\n"])
@@ -287,12 +329,16 @@ def slots() -> Iterator[Case]:
     for _ in range(200):
         yield Case("replay2", *group_case(numbers, SLOTS[:4], ()))
     yield Case("replay2", setup_text((1_048_576, 4, 64 * 1024, 64)), "", [next(large_captures())])
-    yield Case("replay2", setup_text((1_048_576, 64, 1024, 65_536)) + "dump yes\n", "", [random_capture(numbers)])
+    yield Case(
+        "replay2", setup_text((1_048_576, 64, 1024, 65_536)) + "dump yes\n", "",
+        [random_capture(numbers)]
+    )
 
 
 # The largest number of made frames.
 LARGE = (
-    "block_size 65536\nblock_nr 64\nframe_size 2048\nframe_nr 2048\npriv 16\ncpu a\ncpu b\nmembers 4\nmode hash\n"
+    "block_size 65536\nblock_nr 64\nframe_size 2048\nframe_nr 2048\npriv 16\ncpu a\ncpu b\nmembers "
+    "4\nmode hash\n"
     f"key {KEY}\nflag defrag\nmake 1 20000\n"
 )
 
@@ -307,7 +353,10 @@ def random_replays() -> Iterator[Case]:
     """Replays of one CPU, and of groups."""
     numbers = random.Random(1)
     for _ in range(100):
-        yield Case("replay", setup_text(numbers.choice(SIZES)), random_schedule(numbers), [random_capture(numbers)])
+        yield Case(
+            "replay", setup_text(numbers.choice(SIZES)), random_schedule(numbers),
+            [random_capture(numbers)]
+        )
     for _ in range(200):
         yield Case("replay", *group_case(numbers))
 
@@ -332,7 +381,8 @@ def worked_out(case: Case) -> tuple[str, Files]:
 
 
 def run_of(program: str, case: Case) -> tuple[Outcome | None, str | None]:
-    """The outcome of a run in the present folder, in which there are no more files than the command reads."""
+    """The outcome of a run in the present folder, in which there are no more files than the
+    command reads."""
     inputs, words = outcomes.inputs_of(case), [program, case.command, "conf"]
     if case.command in ("replay", "replay2"):
         inputs["sched"] = case.schedule.encode()

@@ -1,4 +1,5 @@
-"""The rings of the second program: what a member's ring keeps, drops and gives back, and the bytes of its blocks or slots."""
+"""The rings of the second program: what a member's ring keeps, drops and gives back, and the
+bytes of its blocks or slots."""
 from __future__ import annotations
 
 import struct
@@ -9,7 +10,8 @@ from second.setup import Setup
 
 HEADER = 82  # the bytes of a packet before its data
 V2_HEADER = 66  # the bytes of a slot of TPACKET_V2 before its data
-USER, LOSING, BY_TIME, VLAN = 1, 4, 32, 80  # bits of a status: the reader's, some were lost, by the timer, a tag and its protocol
+# bits of a status: the reader's, some were lost, by the timer, a tag and its protocol
+USER, LOSING, BY_TIME, VLAN = 1, 4, 32, 80
 
 
 class Offer(NamedTuple):
@@ -22,9 +24,13 @@ class Offer(NamedTuple):
 
 
 def address_of(offer: Offer) -> bytes:
-    """The `sockaddr_ll` of a packet: the address of its sender, on an Ethernet interface of index 1."""
+    """The `sockaddr_ll` of a packet: the address of its sender, on an Ethernet interface of
+    index 1."""
     data = offer.frame.data
-    link = struct.pack("<H", 17) + struct.pack(">H", protocol_of(data)) + struct.pack("<IHBB", 1, 1, offer.pkttype, 6)
+    link = (
+        struct.pack("<H", 17) + struct.pack(">H", protocol_of(data))
+        + struct.pack("<IHBB", 1, 1, offer.pkttype, 6)
+    )
     return link + data[6:12] + bytes(2)
 
 
@@ -49,8 +55,9 @@ class Counts:
 
 
 class Ring(Counts):
-    """The ring with its reader: retired blocks with their status, the open one (None where the ring is frozen), how many
-    were released, the clock, the deadline, and the statistics since they were last taken."""
+    """The ring with its reader: retired blocks with their status, the open one (None where the
+    ring is frozen), how many were released, the clock, the deadline, and the statistics since
+    they were last taken."""
 
     def __init__(self, setup: Setup) -> None:
         super().__init__()
@@ -65,7 +72,9 @@ class Ring(Counts):
         return setup.room - HEADER
 
     def fits(self, offer: Offer) -> bool:
-        return self.open is not None and sum(need_of(o.snap) for o in [*self.open, offer]) <= self.room
+        return (
+            self.open is not None and sum(need_of(o.snap) for o in [*self.open, offer]) <= self.room
+        )
 
     def held(self, retired: int) -> bool:
         """Whether the block after so many more retired ones is still the reader's."""
@@ -135,7 +144,8 @@ class Ring(Counts):
         begin, end = offers[0].frame, offers[-1].frame
         size = first + sum(map(len, packets))
         descriptor = struct.pack(
-            "<IIIIIIQIIII", 2, 48, status, len(offers), first, size, place, begin.sec, begin.nsec, end.sec, end.nsec
+            "<IIIIIIQIIII", 2, 48, status, len(offers), first, size, place, begin.sec, begin.nsec,
+            end.sec, end.nsec
         )
         return descriptor.ljust(first, b"\0") + b"".join(packets)
 
@@ -143,16 +153,16 @@ class Ring(Counts):
         """A packet of a block: header, address and data, up to where the next one may begin."""
         frame, need = offer.frame, need_of(offer.snap)
         head = struct.pack(
-            "<IIIIIIHHIIHH8x",
-            need if has_next else 0, frame.sec, frame.nsec, offer.snap, frame.wire, USER + VLAN * (frame.tag is not None),
-            HEADER, 96, offer.hash if self.setup.features else 0, *vlan_of(frame), 0,
+            "<IIIIIIHHIIHH8x", need if has_next else 0, frame.sec, frame.nsec, offer.snap,
+            frame.wire, USER + VLAN * (frame.tag is not None), HEADER, 96,
+            offer.hash if self.setup.features else 0, *vlan_of(frame), 0,
         )
         return (head + address_of(offer) + bytes(14) + frame.data[: offer.snap]).ljust(need, b"\0")
 
 
 class SlotRing(Counts):
-    """The ring of TPACKET_V2 with its reader: filled slots with their status, and how many were released. It has no timer, and
-    nothing of it freezes."""
+    """The ring of TPACKET_V2 with its reader: filled slots with their status, and how many were
+    released. It has no timer, and nothing of it freezes."""
 
     def __init__(self, setup: Setup) -> None:
         super().__init__()
@@ -167,7 +177,9 @@ class SlotRing(Counts):
     def try_put(self, offer: Offer) -> bool:
         if len(self.done) + 1 - self.count > self.released:
             return False
-        self.done.append((USER + LOSING * (self.drops > 0) + VLAN * (offer.frame.tag is not None), offer))
+        self.done.append(
+            (USER + LOSING * (self.drops > 0) + VLAN * (offer.frame.tag is not None), offer)
+        )
         self.kept += 1
         return True
 
@@ -197,7 +209,8 @@ class SlotRing(Counts):
         """The bytes of a slot up to the end of its packet."""
         frame = offer.frame
         head = struct.pack(
-            "<IIIHHIIHH4x", status, frame.wire, offer.snap, V2_HEADER, 80, frame.sec, frame.nsec, *vlan_of(frame)
+            "<IIIHHIIHH4x", status, frame.wire, offer.snap, V2_HEADER, 80, frame.sec, frame.nsec,
+            *vlan_of(frame)
         )
         return head + address_of(offer) + bytes(14) + frame.data[: offer.snap]
 

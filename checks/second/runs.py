@@ -1,4 +1,5 @@
-"""The runs of the second program: replays, frames that are made, and captures that are sent; each gives its lines and its files."""
+"""The runs of the second program: replays, frames that are made, and captures that are sent;
+each gives its lines and its files."""
 from __future__ import annotations
 
 import struct
@@ -21,7 +22,8 @@ class Replay:
     """A run: its CPUs with what waits, its rings, and what was logged."""
 
     def __init__(
-        self, setup: Setup, captures: Sequence[bytes], program: filter_verdicts.Program | None, kind: RingKind
+        self, setup: Setup, captures: Sequence[bytes], program: filter_verdicts.Program | None,
+        kind: RingKind
     ) -> None:
         self.setup, self.program, self.ticket = setup, program, 0
         self.most, self.rings = kind.most(setup), [kind(setup) for _ in range(setup.members)]
@@ -29,7 +31,8 @@ class Replay:
         self.frames, self.ends = [frames for frames, _ in read], [end for _, end in read]
         self.waiting = [list(frames) for frames in self.frames]
         self.held = [Reassembly() for _ in captures]
-        self.present = [0] * len(captures)  # the member at which each CPU's packets arrive in mode rollover
+        # the member at which each CPU's packets arrive in mode rollover
+        self.present = [0] * len(captures)
         self.verdicts: list[list[int]] = [[] for _ in captures]
 
     def feed(self, cpu: int) -> None:
@@ -46,14 +49,18 @@ class Replay:
         ticket, self.ticket = self.ticket, self.ticket + 1
         hashed = flow_hash(setup.key, frame.data) if setup.key else 0
         pkttype = pkttype_of(frame.data, setup.mac)
-        facts = {0: protocol_of(frame.data), 4: pkttype, 8: 1, 24: queue, 28: 1, 32: hashed, 36: cpu}
+        facts = {
+            0: protocol_of(frame.data), 4: pkttype, 8: 1, 24: queue, 28: 1, 32: hashed, 36: cpu
+        }
         packet = filter_verdicts.Packet(frame.data, frame.wire, facts)
         verdict = filter_verdicts.verdict(self.program, packet) if self.program else KEEPS_ALL
         self.verdicts[cpu].append(verdict)
         if verdict == 0:
             return
         offer = Offer(frame, min(len(frame.data), verdict, self.most), hashed, pkttype)
-        homes = {"hash": hashed, "lb": ticket, "cpu": cpu, "qm": queue, "rollover": self.present[cpu]}
+        homes = {
+            "hash": hashed, "lb": ticket, "cpu": cpu, "qm": queue, "rollover": self.present[cpu]
+        }
         self.deliver(cpu, offer, homes[setup.mode] % setup.members)
 
     def deliver(self, cpu: int, offer: Offer, home: int) -> None:
@@ -90,7 +97,10 @@ class Replay:
 
     def cpu_lines(self) -> Iterator[str]:
         for cpu, verdicts in enumerate(self.verdicts):
-            yield f"cpu {cpu} frames {len(self.frames[cpu])} arrivals {len(verdicts)} end {self.ends[cpu]}\n"
+            yield (
+                f"cpu {cpu} frames {len(self.frames[cpu])} arrivals {len(verdicts)} end "
+                f"{self.ends[cpu]}\n"
+            )
 
     def lines(self) -> Iterator[str]:
         yield from self.cpu_lines()
@@ -104,13 +114,19 @@ class Replay:
 
     def total_line(self, kept: int, drops: int) -> str:
         verdicts = [verdict for cpu in self.verdicts for verdict in cpu]
-        return f"total arrivals {len(verdicts)} filtered {verdicts.count(0)} kept {kept} drops {drops}\n"
+        return (
+            f"total arrivals {len(verdicts)} filtered {verdicts.count(0)} kept {kept} drops "
+            f"{drops}\n"
+        )
 
     def files(self) -> Files:
         """The files that are saved, by their names."""
         saved = {}
         for member, ring in enumerate(self.rings):
-            packets = [offer.frame._replace(data=offer.frame.data[: offer.snap]) for offer in ring.offers()]
+            packets = [
+                offer.frame._replace(data=offer.frame.data[: offer.snap])
+                for offer in ring.offers()
+            ]
             saved[f"{self.setup.prefix}.{member}.pcap"] = output_of(packets)
             if self.setup.dump:
                 saved[f"{self.setup.prefix}.{member}.blk"] = ring.dump()
@@ -118,10 +134,11 @@ class Replay:
 
 
 def replay(
-    setup: Setup, schedule: str, captures: Sequence[bytes], program: filter_verdicts.Program | None = None,
-    kind: RingKind = Ring,
+    setup: Setup, schedule: str, captures: Sequence[bytes],
+    program: filter_verdicts.Program | None = None, kind: RingKind = Ring,
 ) -> tuple[str, Files]:
-    """The printed lines and the files of a run over rings of a kind. Words behind a `#` in front are comments."""
+    """The printed lines and the files of a run over rings of a kind. Words behind a `#` in front
+    are comments."""
     run = Replay(setup, captures, program, kind)
     for line in schedule.splitlines():
         word, *values = line.split() or ["#"]
@@ -163,7 +180,10 @@ def made_schedule(setup: Setup) -> str:
     """The lines by which the made frames of a setup are replayed."""
     assert setup.made
     reads = "".join(2 * f"read {member}\n" for member in range(setup.members))
-    lines = (f"feed {index % len(setup.cpus)}\n" + reads * (index % 64 == 63) for index in range(setup.made[1]))
+    lines = (
+        f"feed {index % len(setup.cpus)}\n" + reads * (index % 64 == 63)
+        for index in range(setup.made[1])
+    )
     return "".join(lines)
 
 
@@ -185,7 +205,10 @@ def send(setup: Setup, capture: bytes) -> tuple[str, Files]:
         elif size > setup.slot_room:
             stop = str(frame.index)
             break
-    lines = f"cpu 0 frames {len(frames)} end {end}\nsend sent {len(sent)} skipped {skipped} stop {stop}\n"
+    lines = (
+        f"cpu 0 frames {len(frames)} end {end}\nsend sent {len(sent)} skipped {skipped} stop "
+        f"{stop}\n"
+    )
     return lines, {f"{setup.prefix}.tx.pcap": sent_file(sent)}
 
 

@@ -6,7 +6,8 @@ SLOT_HEADER = 48  # the bytes of a transmit slot before its data
 
 
 class Setup:
-    """The lines of a setup that is accepted; each word has the value that it has without its line."""
+    """The lines of a setup that is accepted; each word has the value that it has without its
+    line."""
 
     def __init__(self, text: str) -> None:
         fields: dict[str, str] = {}
@@ -27,8 +28,11 @@ class Setup:
         self.members, self.mode = int(fields.get("members", 1)), fields.get("mode", "cpu")
         self.key = bytes.fromhex(fields["key"]) if "key" in fields else None
         self.mac = bytes.fromhex(fields["mac"]) if "mac" in fields else None
-        self.filter, self.prefix, self.dump = fields.get("filter"), fields.get("out", "out"), "dump" in fields
-        self.workers = int(fields.get("workers", 0))  # says who decodes, and nothing of what comes out
+        self.filter, self.prefix, self.dump = (
+            fields.get("filter"), fields.get("out", "out"), "dump" in fields
+        )
+        # says who decodes, and nothing of what comes out
+        self.workers = int(fields.get("workers", 0))
 
     def take_ring(self, fields: dict[str, str]) -> None:
         """The shape of the rings, and the room of a block and of a transmit slot for packets."""

@@ -1,6 +1,7 @@
-"""Captures that somebody made to do harm (lengths at their extremes, cuts at each byte of a header, captures with bytes changed at
-random) give the status, the lines and the files that the second program works out, and no form of input costs much more than a plain
-one of its size, or grows faster than its bytes."""
+"""Captures that somebody made to do harm (lengths at their extremes, cuts at each byte of a
+header, captures with bytes changed at random) give the status, the lines and the files that the
+second program works out, and no form of input costs much more than a plain one of its size, or
+grows faster than its bytes."""
 from __future__ import annotations
 
 from pathlib import Path
@@ -22,7 +23,9 @@ def pages_of_one_size() -> None:
 def test_captures(part: int, program: Path, inside: Path) -> None:
     """10,000 changed ones by the first program, and 1,000 by another."""
     count = 10_000 if program == PROGRAMS[0] else 1_000
-    assert hostile_captures.wrong_of(str(program), list(hostile_captures.cases(count))[part::SHARES]) == []
+    assert hostile_captures.wrong_of(
+        str(program), list(hostile_captures.cases(count))[part::SHARES]
+    ) == []
 
 
 @pytest.mark.parametrize("name", hostile_captures.FORMS)

@@ -1,5 +1,6 @@
-"""Replays of captures of many kinds, over rings of blocks and of slots, frames that are made and captures that are sent, give the
-status, the lines and the files that the second program works out; and that gives what was worked out with pencil and paper."""
+"""Replays of captures of many kinds, over rings of blocks and of slots, frames that are made and
+captures that are sent, give the status, the lines and the files that the second program works
+out; and that gives what was worked out with pencil and paper."""
 from __future__ import annotations
 
 from collections.abc import Callable, Iterator
@@ -13,7 +14,11 @@ from second.replays import Case
 from second.runs import made_frames
 
 WORKED = [*replays.worked_cases(), *replays.slot_cases(), *replays.sent_cases()]
-PLAIN = [Case("replay", replays.setup_text(size), replays.FEW_STEPS, [data]) for data in replays.small_captures() for size in replays.SIZES]
+PLAIN = [
+    Case("replay", replays.setup_text(size), replays.FEW_STEPS, [data])
+    for data in replays.small_captures()
+    for size in replays.SIZES
+]
 SLOTS = [
     Case("replay2", replays.setup_text(size) + "dump yes\n", replays.FEW_STEPS, [data])
     for data in replays.small_captures() for size in replays.SLOTS[:4]
@@ -38,7 +43,11 @@ def test_run(case: Case, program: Path, inside: Path) -> None:
     assert found_wrong(replays.faults, case, lambda case: replays.run_of(str(program), case)) == []
 
 
-@pytest.mark.parametrize("cases", [replays.large, replays.random_replays, replays.slots, replays.sends, replays.makes])
+@pytest.mark.parametrize(
+    "cases", [replays.large, replays.random_replays, replays.slots, replays.sends, replays.makes]
+)
 def test_runs(cases: Callable[[], Iterator[Case]], program: Path) -> None:
     """Runs of a kind, drawn from a number."""
-    assert outcomes.wrong_runs(cases.__name__, replays.faults, cases(), lambda case: replays.run_of(str(program), case)) == 0
+    assert outcomes.wrong_runs(
+        cases.__name__, replays.faults, cases(), lambda case: replays.run_of(str(program), case)
+    ) == 0

@@ -1,5 +1,6 @@
-"""Captures that run on threads have the lines and files that such a run may have, whichever thread goes first; and so have some that
-may make no thread, which have to end as well. What tells this refuses outcomes that were made wrong, and takes right ones."""
+"""Captures that run on threads have the lines and files that such a run may have, whichever
+thread goes first; and so have some that may make no thread, which have to end as well. What
+tells this refuses outcomes that were made wrong, and takes right ones."""
 from __future__ import annotations
 
 import random
@@ -23,12 +24,16 @@ def test_right_outcomes_of_forward_pass() -> None:
 
 
 @pytest.mark.parametrize(("case", "outcome"), WRONG_CAPTURES.values(), ids=WRONG_CAPTURES)
-def test_a_wrong_outcome_of_capture_is_refused(case: captures.Case, outcome: outcomes.Outcome) -> None:
+def test_a_wrong_outcome_of_capture_is_refused(
+    case: captures.Case, outcome: outcomes.Outcome
+) -> None:
     assert list(captures.faults(case, *outcome)) != []
 
 
 @pytest.mark.parametrize(("case", "outcome"), WRONG_FORWARDS.values(), ids=WRONG_FORWARDS)
-def test_a_wrong_outcome_of_forward_is_refused(case: captures.Case, outcome: outcomes.Outcome) -> None:
+def test_a_wrong_outcome_of_forward_is_refused(
+    case: captures.Case, outcome: outcomes.Outcome
+) -> None:
     assert list(forwards.faults(case, *outcome)) != []
 
 
@@ -36,7 +41,9 @@ def test_a_wrong_outcome_of_forward_is_refused(case: captures.Case, outcome: out
 def test_capture(case: captures.Case, program: Path, inside: Path) -> None:
     """A run of a table."""
     numbers = random.Random(4)
-    assert outcomes.found_wrong(captures.faults, case, lambda case: captures.run_of(str(program), case, numbers)) == []
+    assert outcomes.found_wrong(
+        captures.faults, case, lambda case: captures.run_of(str(program), case, numbers)
+    ) == []
 
 
 @pytest.mark.parametrize("part", range(6))
@@ -44,7 +51,10 @@ def test_captures(part: int, program: Path) -> None:
     """Fifty runs that are drawn from the number of the part."""
     numbers = random.Random(part)
     cases = [captures.random_case(numbers) for _ in range(50)]
-    assert outcomes.wrong_runs("runs on threads", captures.faults, cases, lambda case: captures.run_of(str(program), case, numbers)) == 0
+    assert outcomes.wrong_runs(
+        "runs on threads", captures.faults, cases,
+        lambda case: captures.run_of(str(program), case, numbers)
+    ) == 0
 
 
 @pytest.mark.parametrize("case", captures.sum_cases())
@@ -67,4 +77,6 @@ def test_captures_without_threads(program: Path, room: Path) -> None:
     """Runs of a user who may start nothing."""
     mine = shutil.copy(program, room / "program")
     run = lambda case: no_threads.run_alone(str(mine), case)  # noqa: E731
-    assert outcomes.wrong_runs("runs without threads", captures.faults, no_threads.cases(), run) == 0
+    assert outcomes.wrong_runs(
+        "runs without threads", captures.faults, no_threads.cases(), run
+    ) == 0

@@ -46,7 +46,10 @@ class Here:
 
     def capture(self, name: str, frames: Iterable[tuple[int, bytes]]) -> None:
         """Writes a capture of frames, each with its time in microseconds after 1,000 seconds."""
-        records = (record(data, sec=1000 + time // 1_000_000, fraction=time % 1_000_000) for time, data in frames)
+        records = (
+            record(data, sec=1000 + time // 1_000_000, fraction=time % 1_000_000) for time,
+            data in frames
+        )
         self.saved(name, header() + b"".join(records))
 
     def text(self, name: str, words: str) -> str:
@@ -73,5 +76,7 @@ def frame(number: int, size: int = 60) -> bytes:
 def datagram(ident: int, offset: int, is_last: bool, data: bytes) -> bytes:
     """A fragment of a UDP datagram; its place is in bytes."""
     flags = offset // 8 | (0 if is_last else 0x2000)
-    head = struct.pack(">BBHHHBBH", 0x45, 0, 20 + len(data), ident, flags, 64, 17, 0) + bytes([10, 0, 0, 1, 10, 0, 0, 2])
+    head = struct.pack(">BBHHHBBH", 0x45, 0, 20 + len(data), ident, flags, 64, 17, 0) + bytes(
+        [10, 0, 0, 1, 10, 0, 0, 2]
+    )
     return bytes(12) + b"\x08\x00" + head + data

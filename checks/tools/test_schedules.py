@@ -1,15 +1,15 @@
 """Whether schedules without what can do nothing give the runs of whole ones.
 
-Captures of the repository and made ones, with silences and bursts, are replayed by a schedule of tools/schedule.py and by one that has
-every tick and every step of the readers, made here from the moments alone. Printed lines, captures and dumps have to be the same byte for
-byte.
+Captures of the repository and made ones, with silences and bursts, are replayed by a schedule of
+tools/schedule.py and by one that has every tick and every step of the readers, made here from
+the moments alone. Printed lines, captures and dumps have to be the same byte for byte.
 """
 from __future__ import annotations
 
 import itertools
 import random
 import struct
-from collections.abc import Sequence
+from collections.abc import Iterator, Sequence
 from fractions import Fraction
 from pathlib import Path
 
@@ -71,7 +71,10 @@ def frame(draw: random.Random, number: int) -> bytes:
         return bytes(12) + b"\x88\xb5" + bytes(size)
     head = struct.pack(">BBHHHBBH", 0x45, 0, 28 + size, number & 0xFFFF, 0, 64, 17, 0)
     ports = struct.pack(">HHHH", draw.randrange(1000, 1008), 53, 8 + size, 0)
-    return bytes(12) + b"\x08\x00" + head + bytes([10, 0, 0, draw.randrange(4), 10, 1, 0, 1]) + ports + bytes(size)
+    return (
+        bytes(12) + b"\x08\x00" + head + bytes([10, 0, 0, draw.randrange(4), 10, 1, 0, 1]) + ports
+        + bytes(size)
+    )
 
 
 def made(path: Path, draw: random.Random, count: int) -> Path:
@@ -85,53 +88,84 @@ def made(path: Path, draw: random.Random, count: int) -> Path:
 
 
 def paces(draw: random.Random) -> Pace:
-    """A pace of each kind, of which some have the whole schedule only as often as a silence asks for it."""
-    reader = draw.choice([{}, {"blocks": Fraction(draw.choice([3, 40, 900]))}, {"bytes": Fraction(draw.choice([9_000, 400_000]))},
-                          {"pause": Fraction(draw.choice([1, 15, 400]))}, {"pause": Fraction(7)}])
-    stalls = ((Fraction(draw.randrange(500)), Fraction(draw.randrange(1, 900))),) * draw.choice([0, 1]) if reader else ()
+    """A pace of each kind, of which some have the whole schedule only as often as a silence asks
+    for it."""
+    reader = draw.choice(
+        [
+            {}, {"blocks": Fraction(draw.choice([3, 40, 900]))},
+            {"bytes": Fraction(draw.choice([9_000, 400_000]))},
+            {"pause": Fraction(draw.choice([1, 15, 400]))}, {"pause": Fraction(7)}
+        ]
+    )
+    stalls = (
+        (Fraction(draw.randrange(500)), Fraction(draw.randrange(1, 900))),
+    ) * draw.choice([0, 1]) if reader else ()
     return Pace(
-        speed=Fraction(draw.choice([1, 1, 3])), tick=draw.choice([None, None, None, 0, 1, 3, 10, 250]), phase=Fraction(draw.choice([0, 0, 3, 77])),
-        stalls=stalls, stats=Fraction(draw.choice(["0", "0", "0.05"])), **reader,
+        speed=Fraction(draw.choice([1, 1, 3])),
+        tick=draw.choice([None, None, None, 0, 1, 3, 10, 250]),
+        phase=Fraction(draw.choice([0, 0, 3, 77])), stalls=stalls,
+        stats=Fraction(draw.choice(["0", "0", "0.05"])), **reader,
     )
 
 
 def setups(draw: random.Random, names: Sequence[Path]) -> tuple[str, Shape, str]:
     """The lines of a setup for captures, its shape, and the command."""
     is_v2 = draw.random() < 0.2
-    size, count, timeout, members = draw.choice([4096, 8192]), draw.choice([2, 3, 5, 16]), draw.choice([1, 8, 20, 100]), draw.choice([1, 1, 2, 3])
+    size, count, timeout, members = (
+        draw.choice([4096, 8192]), draw.choice([2, 3, 5, 16]), draw.choice([1, 8, 20, 100]),
+        draw.choice([1, 1, 2, 3])
+    )
     mode = draw.choice(["cpu", "hash", "lb", "rollover", "qm"])
-    lines = [f"block_size {size}", f"block_nr {count}", "frame_size 2048", f"frame_nr {size // 2048 * count}", f"tov {0 if is_v2 else timeout}",
-             f"members {members}", f"mode {mode}", f"key {KEY}", "dump yes", *(f"cpu {name}" for name in names)]
-    lines += ["flag rollover"] * (mode != "rollover" and draw.random() < 0.3) + ["flag defrag"] * (draw.random() < 0.2)
-    shape = Shape(members, 2048, size // 2048 * count, None) if is_v2 else Shape(members, size, count, timeout)
+    lines = [
+        f"block_size {size}", f"block_nr {count}", "frame_size 2048",
+        f"frame_nr {size // 2048 * count}", f"tov {0 if is_v2 else timeout}", f"members {members}",
+        f"mode {mode}", f"key {KEY}", "dump yes", *(f"cpu {name}" for name in names)
+    ]
+    lines += ["flag rollover"] * (mode != "rollover" and draw.random() < 0.3) + ["flag defrag"] * (
+        draw.random() < 0.2
+    )
+    shape = Shape(members, 2048, size // 2048 * count, None) if is_v2 else Shape(
+        members, size, count, timeout
+    )
     return "\n".join(lines) + "\n", shape, "replay2" if is_v2 else "replay"
 
 
-def outcome(here: Here, command: str, setup: str, schedule: str, prefix: str) -> tuple[str, int, dict[str, bytes]] | str | None:
+def outcome(
+    here: Here, command: str, setup: str, schedule: str, prefix: str
+) -> tuple[str, int, dict[str, bytes]] | str | None:
     """What a run prints and saves."""
     here.text("setup", setup + f"out {prefix}\n")
     here.text("schedule", schedule)
     done, why = running.run([here.program, command, "setup", "schedule"], cwd=here.path, text=True)
-    files = {path.name.removeprefix(prefix): path.read_bytes() for path in sorted(here.path.glob(f"{prefix}.*"))}
+    files = {
+        path.name.removeprefix(prefix): path.read_bytes()
+        for path in sorted(here.path.glob(f"{prefix}.*"))
+    }
     for path in here.path.glob(f"{prefix}.*"):
         path.unlink()
     return (done.stdout, done.returncode, files) if done else why
 
 
-def captures_of(here: Here, draw: random.Random) -> list[Path]:
-    """Captures of the repository, and made ones."""
-    ours = sorted([TOP / "demo/lo.pcap", *(TOP / "demo/expected").rglob("*.pcap")])
-    return ours + [made(here.path / f"made{number}.pcap", draw, draw.choice([1, 3, 40, 200])) for number in range(12)]
+OURS = sorted([TOP / "demo/lo.pcap", *(TOP / "demo/expected").rglob("*.pcap")])
+
+
+def captures_of(here: Here, draw: random.Random) -> Iterator[list[Path]]:
+    """Each capture of the repository, and then made ones, of which some runs have two."""
+    captures = [
+        made(here.path / f"made{number}.pcap", draw, draw.choice([1, 3, 40, 200]))
+        for number in range(12)
+    ]
+    yield from ([path] for path in OURS)
+    while True:
+        yield draw.choices(captures, k=draw.choice([1, 1, 2]))
 
 
 @pytest.mark.parametrize("part", range(4))
 def test_as_whole_schedules(part: int, here: Here) -> None:
     """Fifty runs that are drawn from the number of the part; most schedules become shorter."""
     draw = random.Random(part)
-    captures = captures_of(here, draw)
     compared = shorter = 0
-    for case in range(50):
-        names = draw.choices(captures, k=draw.choice([1, 1, 2])) if case >= len(captures) else [captures[case]]
+    for case, names in enumerate(itertools.islice(captures_of(here, draw), 50)):
         setup, shape, command = setups(draw, names)
         pace = paces(draw)
         fed = feeds(map(CaptureStream, names), pace.speed)
@@ -142,7 +176,8 @@ def test_as_whole_schedules(part: int, here: Here) -> None:
         compared += 1
         shorter += len(brief) < len(full)
         assert len(brief) <= len(full), f"case {case}"
-        assert outcome(here, command, setup, brief, "brief") == outcome(here, command, setup, full, "full"), f"case {case}: {setup}{pace}"
+        shortly = outcome(here, command, setup, brief, "brief")
+        assert shortly == outcome(here, command, setup, full, "full"), f"case {case}: {pace}"
     assert compared >= 25 and shorter >= compared // 2
 
 
@@ -150,5 +185,7 @@ def test_a_long_silence(here: Here) -> None:
     """Frames of a year apart: a schedule as long as a silence would never end."""
     apart = made(here.path / "apart.pcap", random.Random(7), 3)
     apart.write_bytes(apart.read_bytes() + record(bytes(60), sec=40_000_000, fraction=0))
-    long = schedule_of(feeds([CaptureStream(apart)], Fraction(1)), Pace(pause=Fraction(1)), Shape(1, 4096, 2, 8))
+    long = schedule_of(
+        feeds([CaptureStream(apart)], Fraction(1)), Pace(pause=Fraction(1)), Shape(1, 4096, 2, 8)
+    )
     assert len(long.split("\n")) <= 40
