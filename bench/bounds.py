@@ -57,9 +57,13 @@ def verdict(figure: float | None, most: float) -> str:
     return "within a tenth" if figure <= MARGIN * most else "no"
 
 
-def passes_bounds(bounds: Figures, figures: Figures) -> bool:
-    """Prints the table of bounds, and gives whether a figure passes its bound by more than a
-    tenth."""
+def too_much(name: str, figure: float, most: float) -> str:
+    """What is said of a figure that passes its bound."""
+    return f"{name}: {shown(figure)}, and at most {shown(most)} is wanted"
+
+
+def passed_bounds(bounds: Figures, figures: Figures) -> list[str]:
+    """Prints the table of bounds, and gives the figures that pass theirs by more than a tenth."""
     print("\n## Bounds\n")
     print("| Figure | Measured | At most | Holds |")
     print("|---|---|---|---|")
@@ -72,7 +76,5 @@ def passes_bounds(bounds: Figures, figures: Figures) -> bool:
             continue
         print(f"| {name} | {shown(figure)} | {shown(most)} | {said} |")
         if said == "no":
-            failures.append(f"{name}: {shown(figure)}, and at most {shown(most)} is wanted")
-    for failure in failures:
-        print(f"\n{failure}")
-    return bool(failures)
+            failures.append(too_much(name, figure, most))
+    return failures

@@ -21,6 +21,8 @@ import sys
 import tempfile
 from collections.abc import Callable, Sequence
 
+from bounds import too_much
+
 TOP = os.path.join(os.path.dirname(os.path.abspath(__file__)), "..")
 CRATE = os.path.join(TOP, "crates", "filter_table")
 PROGRAM = os.path.join(CRATE, "out", "filter_table")
@@ -134,12 +136,12 @@ def built_plain() -> str | None:
     return plain
 
 
-def costs_of_filters(program: str = PROGRAM) -> bool:
-    """Prints the table of filters in the present folder, and gives whether one takes too much."""
+def costs_of_filters(program: str = PROGRAM) -> list[str]:
+    """Prints the table of filters in the present folder, and gives those that take too much."""
     print("\n## Filters beside libpcap\n")
     plain = built_plain()
     if not plain:
-        return False
+        return []
     if not os.path.exists(program):
         subprocess.run(
             ["rt", "run"], cwd=CRATE, stdin=subprocess.DEVNULL, stdout=subprocess.DEVNULL,
@@ -149,26 +151,29 @@ def costs_of_filters(program: str = PROGRAM) -> bool:
         "| Filter | Instructions of it executed | ringtap, for each | libpcap, for each | Times |"
     )
     print("|---|---|---|---|---|")
-    too_much = False
+    failures = []
     for name, (text, executed) in FILTERS.items():
         ours, theirs = cost(count_of_ours, program, text, executed), cost(
             count_of_theirs, plain, text, executed
         )
-        too_much = too_much or ours > MOST * theirs
+        if ours > MOST * theirs:
+            failures.append(too_much(f"filter to libpcap, {name}", ours / theirs, MOST))
         print(
             f"| {name} | {executed:,} | {ours:.1f} | {theirs:.1f} | {ours / theirs:.2f} |",
             flush=True
         )
-    return too_much
+    return failures
 
 
 def main() -> None:
     program = os.path.abspath(sys.argv[1]) if sys.argv[1:] else PROGRAM
     with tempfile.TemporaryDirectory() as room:
         os.chdir(room)
-        too_much = costs_of_filters(program)
+        failures = costs_of_filters(program)
         os.chdir(TOP)
-    sys.exit(1 if too_much else 0)
+    for failure in failures:
+        print(failure)
+    sys.exit(1 if failures else 0)
 
 
 if __name__ == "__main__":

@@ -9,7 +9,9 @@ from pathlib import Path
 
 sys.path.append(str(Path(__file__).resolve().parent.parent / "checks"))
 
-from capture_bytes import LARGEST_RECORD, enhanced, header, interface, record, section  # noqa: E402
+from second.capture_bytes import (  # noqa: E402
+    LARGEST_RECORD, enhanced, header, interface, record, section,
+)
 
 Ring = dict[str, int]  # the numbers of a ring, by their words in a setup
 Words = list[str]

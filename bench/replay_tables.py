@@ -6,6 +6,7 @@ import os
 import shutil
 import sys
 
+from bounds import too_much
 from inputs import (
     FRAMES, GROUPS, MIB, PASSES_IP, RINGS, SLOT_RINGS, SLOTS, make_blocks, make_capture, make_flows,
     write_setup,
@@ -13,6 +14,7 @@ from inputs import (
 from measurements import COMMANDS, Asked, Found, measure, tested, total_of
 
 GROWTH = 2.2
+REFUSED = 256  # the bytes of memory that a frame may take that a filter refuses
 # The pairs of sizes between which CPU time and memory are compared.
 DOUBLES = {"MiB": (16, 32), "made frames": (10_000, 20_000)}
 
@@ -199,8 +201,8 @@ def times_of_slots(program: str, asked: Asked) -> Found:
     return found
 
 
-def memory_of_refused(program: str, asked: Asked) -> bool:
-    """Prints how memory grows where a filter refuses every frame, and gives whether it grows too
+def memory_of_refused(program: str, asked: Asked) -> list[str]:
+    """Prints how memory grows where a filter refuses every frame, and gives that if it is too
     much."""
     print("\n## A filter that refuses every frame\n")
     with open("refuse.ddd", "w", encoding="ascii") as file:
@@ -217,24 +219,22 @@ def memory_of_refused(program: str, asked: Asked) -> bool:
         f"\nfilter that refuses all, from 8 to 32 MiB: {small / MIB:.1f} to {large / MIB:.1f} MiB, "
         f"{each:.0f} bytes a frame"
     )
-    return each > 256
+    return [too_much("bytes of a refused frame", each, REFUSED)] if each > REFUSED else []
 
 
-def grows(found: Found) -> bool:
-    """Prints how CPU time and memory grow where the input doubles, and gives whether one of them
-    grows too much."""
+def growth(found: Found) -> list[str]:
+    """Prints how CPU time and memory grow where the input doubles, and gives what grows too
+    much."""
     print("\n## Growth\n")
-    too_much = False
+    failures = []
     for unit, (half, whole) in DOUBLES.items():
         for (what, size), (cpu, memory) in found.items():
             if size == whole and (what, half) in found:
                 before, small = found[what, half]
                 in_time, in_memory = cpu / before, memory / small
-                is_bad = max(in_time, in_memory) > GROWTH
-                too_much = too_much or is_bad
-                print(
-                    f"from {half:,} to {whole:,} {unit}, {what}: CPU time by {in_time:.2f}, memory "
-                    f"by {in_memory:.2f}"
-                    f"{', which is too much' if is_bad else ''}"
-                )
-    return too_much
+                step = f"from {half:,} to {whole:,} {unit}, {what}"
+                print(f"{step}: CPU time by {in_time:.2f}, memory by {in_memory:.2f}")
+                for name, times in (("CPU time", in_time), ("memory", in_memory)):
+                    if times > GROWTH:
+                        failures.append(too_much(f"growth of {name} {step}", times, GROWTH))
+    return failures

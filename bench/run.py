@@ -48,9 +48,10 @@ what it takes of libpcap (bench/filters.py), where a capture on threads that kee
 with a member for each CPU, takes more than 2.5 times the CPU time of the replay, or where a
 figure passes its bound in bench/bounds.py by more than a tenth. The bounds are of the seven
 replays beside C, their time, memory and instructions, and of captures on threads of small frames
-beside replays. The last table has each of them with what was measured, and below it stand those
-that fail; what there is no compiler or no valgrind for isn't measured and fails nothing. With
---threads the bounds of captures on threads alone are tested, with --beside none.
+beside replays. The last table has each of them with what was measured, and below it stand all
+figures that fail, each with its bound; what there is no compiler or no valgrind for isn't
+measured and fails nothing. With --threads the bounds of captures on threads alone are tested,
+with --beside none.
 """
 from __future__ import annotations
 
@@ -66,16 +67,16 @@ from collections.abc import Iterator
 from typing import TextIO
 
 import filters
-from bounds import BESIDE_C, ON_THREADS, Figures, passes_bounds
+from bounds import BESIDE_C, ON_THREADS, Figures, passed_bounds
 from measurements import PROGRAM, TOP, WORK, Asked
 from plain_tables import times_of_plain, times_of_plain_threads
 from replay_tables import (
-    grows, memory_of_refused, times_beside, times_of_blocks, times_of_groups, times_of_made,
+    growth, memory_of_refused, times_beside, times_of_blocks, times_of_groups, times_of_made,
     times_of_replays, times_of_sent, times_of_slots,
 )
 from settings_table import times_of_settings
 from thread_tables import (
-    figures_of_threads, takes_too_much, times_of_forwards, times_of_pools, times_of_processes,
+    dear_captures, figures_of_threads, times_of_forwards, times_of_pools, times_of_processes,
     times_of_threads,
 )
 
@@ -153,42 +154,51 @@ def copied(asked: Asked) -> Iterator[None]:
             yield
 
 
-def all_times_on_threads(program: str, asked: Asked) -> tuple[bool, Figures]:
-    """Prints the tables of captures on threads and of what stands beside them. Gives whether one
-    takes too much CPU time, and what has bounds."""
+def all_times_on_threads(program: str, asked: Asked) -> tuple[list[str], Figures]:
+    """Prints the tables of captures on threads and of what stands beside them. Gives those that
+    take too much CPU time, and what has bounds."""
     times_of_processes(program, asked)
     times_of_plain_threads(program, asked)
     rows = times_of_threads(program, asked)
     times_of_forwards(program, asked)
     times_of_pools(program, asked)
-    return takes_too_much(rows), figures_of_threads(rows)
+    return dear_captures(rows), figures_of_threads(rows)
 
 
-def all_times(program: str, asked: Asked) -> tuple[bool, Figures]:
-    """Prints all tables. Gives whether something takes or grows too much, and what has bounds."""
+def all_times(program: str, asked: Asked) -> tuple[list[str], Figures]:
+    """Prints all tables. Gives what takes or grows too much, and what has bounds."""
     found = times_of_replays(program, asked)
     times_of_blocks(program, asked)
     for times in (times_of_groups, times_of_made, times_of_sent, times_of_slots):
         found.update(times(program, asked))
-    too_much, figures = all_times_on_threads(program, asked)
+    failures, figures = all_times_on_threads(program, asked)
     figures.update(times_of_plain(program, asked))
     times_of_settings(program, asked)
-    is_large = memory_of_refused(program, asked)
-    is_dear = filters.costs_of_filters()
-    return grows(found) or is_large or is_dear or too_much, figures
+    failures += memory_of_refused(program, asked)
+    failures += filters.costs_of_filters()
+    return failures + growth(found), figures
 
 
-def tables_of(asked: Asked) -> bool:
-    """Prints the tables that are asked for, and gives whether something takes or grows too much,
-    or passes its bound."""
+def tables_of(asked: Asked) -> list[str]:
+    """Prints the tables that are asked for, and gives what takes or grows too much, or passes its
+    bound: each figure with its bound."""
     if asked.beside:
         times_beside(asked.program, asked.beside, asked)
-        return False
+        return []
     times, bounds = (all_times_on_threads, ON_THREADS) if asked.threads else (
         all_times, {**BESIDE_C, **ON_THREADS}
     )
-    too_much, figures = times(asked.program, asked)
-    return passes_bounds(bounds, figures) or too_much
+    failures, figures = times(asked.program, asked)
+    return failures + passed_bounds(bounds, figures)
+
+
+def run_tables(asked: Asked) -> list[str]:
+    """Prints the tables, and at last what fails."""
+    failures = tables_of(asked)
+    if failures:
+        print("\n## Failures\n")
+        print("".join(f"- {failure}\n" for failure in failures), end="")
+    return failures
 
 
 def main() -> None:
@@ -201,11 +211,11 @@ def main() -> None:
         os.chdir(WORK)
         open("sched", "wb").close()
         with copied(asked):
-            too_much = tables_of(asked)
+            failures = run_tables(asked)
     finally:
         os.chdir(TOP)
         shutil.rmtree(WORK)
-    sys.exit(1 if too_much else 0)
+    sys.exit(1 if failures else 0)
 
 
 if __name__ == "__main__":

@@ -11,7 +11,7 @@ import time
 from collections.abc import Iterator
 from typing import NamedTuple
 
-from bounds import Figures, capture_of
+from bounds import Figures, capture_of, too_much
 from inputs import EACH, MAKERS, ONE, RINGS, SHARED, SMALL_BLOCKS, Ring, write_setup
 from measurements import COMMANDS, Asked, Times, one_run, remove_outputs, total_of
 
@@ -166,13 +166,17 @@ def times_of_threads(program: str, asked: Asked) -> list[Row]:
     return rows
 
 
-def takes_too_much(rows: list[Row]) -> bool:
-    """Whether a capture that keeps all frames, with a member for each CPU, takes too much CPU
+def dear_captures(rows: list[Row]) -> list[str]:
+    """The captures that keep all frames, with a member for each CPU, and take too much CPU
     time."""
-    return any(
-        row.capture.cpu > MOST_CPU * row.replay.cpu
-        for row in rows if row.keeps and row.group == EACH
-    )
+    every = [row for row in rows if row.keeps and row.group == EACH]
+    return [
+        too_much(
+            f"CPU time of capture to replay, {row.kind}, {row.cpus} CPUs, ring that {row.ring}",
+            row.capture.cpu / row.replay.cpu, MOST_CPU
+        )
+        for row in every if row.capture.cpu > MOST_CPU * row.replay.cpu
+    ]
 
 
 def figures_of_threads(rows: list[Row]) -> Figures:
