@@ -515,6 +515,7 @@ def test_captures(here: Here) -> None:
 def test_faults(here: Here) -> None:
     """Files that can't be read or written, with the system's reason."""
     gone = "No such file or directory"
+    (here.path / "run-1").mkdir()
     here.text("gone.txt", BLOCK + "cpu one.pcap\ncpu gone.pcap\ncpu run-1\n")
     explained(
         here, "no capture", ["replay", "gone.txt", "none.sched"],
