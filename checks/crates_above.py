@@ -80,7 +80,9 @@ def table() -> str:
 
 
 def main() -> None:
-    words = argparse.ArgumentParser(description=__doc__, formatter_class=argparse.RawDescriptionHelpFormatter)
+    words = argparse.ArgumentParser(
+        description=__doc__, formatter_class=argparse.RawDescriptionHelpFormatter
+    )
     words.add_argument("--write", action="store_true", help="write the table anew")
     text = PAGE.read_text(encoding="utf-8")
     anew, found = TABLE.subn(lambda _: table(), text)

@@ -78,7 +78,7 @@ def test_capinfos_reads_a_replay(name: str, program: Path, demo: Path) -> None:
     assert number_in(r"^Number of packets: *(\d+)", said) == number_in(
         r"^total .* kept (\d+)", lines
     )
-    assert "Ethernet" in said
+    assert re.search(r"^File encapsulation: *(Ethernet|ether)$", said, re.M)
 
 
 @pytest.mark.needs("tcpdump")

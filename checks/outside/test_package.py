@@ -182,10 +182,12 @@ def by_user(root: Path, command: str) -> str:
 
 @pytest.mark.needs("a chroot")
 def test_readme(root: Path) -> None:
+    """Its commands, with the package's names for the tools."""
     commands = documents.steps((TOP / "README.md").read_text(encoding="utf-8"))
     assert commands
     for command, lines in commands:
-        assert documents.agrees(by_user(root, command), lines), command
+        words = command.replace("python3 tools/ring_size.py", "ringtap-size")
+        assert documents.agrees(by_user(root, words), lines), command
 
 
 @pytest.mark.needs("a chroot")

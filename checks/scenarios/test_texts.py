@@ -1,9 +1,7 @@
 """What is wrong with a file of scenarios is said with its line, in one sentence, by the reader
-of these checks and by the runner."""
+of these checks."""
 from __future__ import annotations
 
-import os
-import re
 import subprocess
 import sys
 from pathlib import Path
@@ -11,7 +9,6 @@ from pathlib import Path
 import pytest
 
 from places import TOP
-from scenarios.test_scenarios import runner
 from scenarios.texts import Document, Mistake, is_near
 
 GOOD = """# A comment above the first scenario.
@@ -142,47 +139,3 @@ my.txt: 1 scenarios, 1 worked out, 0 carried out, 1 differ
 def test_near(word: str, other: str, near: bool) -> None:
     assert is_near(word, other) == near
     assert is_near(other, word) == near
-
-
-def test_the_form_has_each_word() -> None:
-    """FORM.md has each word and each field that the reader takes, and its example is taken."""
-    from scenarios.texts import FIELDS, WORDS
-
-    form = (TOP / "crates/scenario_runs/FORM.md").read_text(encoding="utf-8")
-    shown = set(re.findall(r"[\w>]+", " ".join(re.findall(r"`([^`]+)`", form))))
-    names = WORDS | {name for fields in FIELDS.values() for name in fields} | set(FIELDS)
-    assert names - shown == set()
-
-
-# ---- by the runner, in memory
-
-
-def by_runner(room: Path, text: str) -> subprocess.CompletedProcess:
-    (room / "my.txt").write_text(text)
-    return subprocess.run(
-        [runner(), "said", "my.txt"], cwd=room, capture_output=True, text=True, env={**os.environ},
-        timeout=600, check=False
-    )
-
-
-@pytest.mark.parametrize("what", [what for what in SLIPS if what != "members out of order"])
-def test_a_slip_by_the_runner(what: str, room: Path) -> None:
-    done = by_runner(room, slipped(SLIPS[what]))
-    assert f"my.txt:{SLIPS[what][2]}: {SLIPS[what][3]}\n" in done.stdout
-    assert done.returncode == 1
-
-
-def test_comments_stand_anywhere_for_the_runner(room: Path) -> None:
-    done = by_runner(room, GOOD)
-    assert (done.stdout, done.returncode) == ("my.txt: 1 scenarios, 0 differ\n", 0)
-
-
-def test_the_runner_says_which_lines_differ(room: Path) -> None:
-    done = by_runner(
-        room,
-        GOOD.replace("packets 7 drops 3", "packets 8 drops 3").replace("sll_halen 6", "sll_halen 8")
-    )
-    line = "member 0 packets {} drops 3 freezes 1 blocks 2\n"
-    assert f"2 - {line.format(8)}2 + {line.format(7)}" in done.stdout
-    assert "wrong: fields out.0.blk 48 packet tp_snaplen 1514 sll_halen 8\n" in done.stdout
-    assert done.returncode == 1
