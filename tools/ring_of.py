@@ -19,7 +19,8 @@ from pathlib import Path
 
 sys.path.insert(0, str(Path(__file__).resolve().parent))  # which `python3 -I` leaves out
 
-from ringtap_files import Fault, read_bytes, run_main
+from ringtap_files import LARGEST_NAME, Fault, read_bytes, run_main
+from ringtap_notes import ROLLOVER_NOTE
 from ringtap_outputs import check_outputs, write_text
 from ringtap_runs import table
 from ringtap_words import ToolParser, add_json, print_json
@@ -33,6 +34,7 @@ V2, V3 = 1, 2
 KEY = "6d5a56da255b0ec24167253d43a38fb0d0ca2bcbae7b30b477cb2da38030f20c6a42b73bbeac01fa"
 LARGEST_BLOCK, LARGEST_RING = 1_048_576, 67_108_864
 LEAST_BLOCKS, MOST_BLOCKS, MOST_MEMBERS, MOST_TIMEOUT = 2, 256, 8, 60_000
+PAGE, MOST_SLOTS = 4096, 65_536
 
 
 @dataclass(frozen=True)
@@ -61,7 +63,7 @@ class Socket:
 
     def words(self) -> str:
         names = ", ".join(f"{name} (pid {pid})" for name, pid in self.users) or "a process that ss doesn't show"
-        return f"{names} on {self.device}"
+        return "".join(char if char.isprintable() else "?" for char in f"{names} on {self.device}")
 
 
 def entries(text: str) -> list[str]:
@@ -81,15 +83,21 @@ def socket_of(entry: str) -> Socket | None:
     inode, version = re.search(r"\bino:(\d+)", entry), re.search(r"\bver:(\d+)", entry)
     if not (ring and inode and version):
         return None
-    words = dict(part.split(":", 1) for part in ring[1].split(","))
     try:
+        words = dict(part.split(":", 1) for part in ring[1].split(","))
         numbers = [int(words[name], 0) for name in ("blk_size", "blk_nr", "frm_size", "tmo", "features")]
     except (KeyError, ValueError):
         raise Fault(f"ss: a ring in words that aren't known: ring_rx({ring[1]})") from None
+    if min(numbers[:3]) < 1 or numbers[2] > numbers[0]:
+        raise Fault(f"ss: no ring has such numbers: ring_rx({ring[1]})")
     device = re.search(r"(?:\s|])\S*?:(\S+)\s+\*", entry)
     fanout = re.search(r"fanout\(id:(\d+),type:(\w+)", entry)
     filtered = re.search(r"bpf filter \(\d+\):\s*(.*)$", entry)
     parts = [part.split() for part in filtered[1].split(",") if part.strip()] if filtered else []
+    try:
+        instructions = tuple(f"{int(code, 0)} {int(jt)} {int(jf)} {int(k)}" for code, jt, jf, k in parts)
+    except ValueError:
+        raise Fault(f"ss: a filter in words that aren't known: {filtered[1].strip()[:60]}") from None
     return Socket(
         int(inode[1]),
         entry.split()[0],
@@ -98,7 +106,7 @@ def socket_of(entry: str) -> Socket | None:
         Ring(*numbers),
         tuple((name, int(pid)) for name, pid in re.findall(r'\("([^"]*)",pid=(\d+)', entry)),
         (int(fanout[1]), fanout[2]) if fanout else None,
-        tuple(f"{int(code, 0)} {jt} {jf} {k}" for code, jt, jf, k in parts),
+        instructions,
     )
 
 
@@ -149,6 +157,28 @@ def fitted(ring: Ring, is_fit: bool) -> tuple[Ring, list[str]]:
     return Ring(size, count, ring.frame_size, timeout, ring.features), changes
 
 
+def slots_fitted(ring: Ring, is_fit: bool) -> tuple[Ring, list[str]]:
+    """A ring of TPACKET_V2 with as many slots, which alone count: other blocks may hold them."""
+    slots = ring.block_size // ring.frame_size * ring.block_nr
+    found, missed = None, 0
+    for size in range(PAGE, LARGEST_BLOCK + 1, PAGE):
+        inside = size // ring.frame_size
+        if not inside:
+            continue
+        most = min(MOST_BLOCKS, LARGEST_RING // size, MOST_SLOTS // inside)
+        count = max(LEAST_BLOCKS, min(most, (slots + inside // 2) // inside))
+        if count <= most and (found is None or abs(count * inside - slots) < missed):
+            found, missed = Ring(size, count, ring.frame_size, ring.timeout, ring.features), abs(count * inside - slots)
+        if found and not missed:
+            break
+    if found is None or missed and not is_fit:
+        raise Fault(f"the ring has {slots} slots of {ring.frame_size} bytes, and ringtap has no ring of as many: --fit takes the nearest one")
+    changes = [f"{slots} slots in place of {found.block_size // found.frame_size * found.block_nr}"] * bool(missed)
+    if (found.block_size, found.block_nr) != (ring.block_size, ring.block_nr) and not missed:
+        changes.append(f"its {slots} slots in {ring.block_nr} blocks of {ring.block_size} bytes, which makes no difference")
+    return found, changes
+
+
 LIBPCAP = ("tcpdump", "dumpcap", "tshark", "wireshark", "snort", "nmap", "ngrep", "tcpflow", "arpwatch", "p0f")
 RESERVES = [
     "# libpcap reserves 4 bytes more of each packet (PACKET_RESERVE 4): its data begins at 86, and here at 82. So this ring has room for",
@@ -181,7 +211,8 @@ def setup_of(group: list[Socket], captures: list[str], filter_name: str | None, 
     """The text of the setup."""
     first = group[0]
     refuse_version(first)
-    ring, changes = fitted(first.ring, is_fit)
+    slots_alone = first.version == V2 and not fits_as_it_is(first.ring)
+    ring, changes = (slots_fitted if slots_alone else fitted)(first.ring, is_fit)
     lines = [f"# The ring of {first.words()}, as ss shows it.", *[f"# It has {change}." for change in changes]]
     if first.version == V2:
         lines.append("# Of TPACKET_V2, slots of one frame each: run it with `ringtap replay2`.")
@@ -197,6 +228,13 @@ def setup_of(group: list[Socket], captures: list[str], filter_name: str | None, 
     if filter_name:
         lines.append(f"filter {filter_name}")
     return "\n".join(lines) + "\n"
+
+
+def fits_as_it_is(ring: Ring) -> bool:
+    """Whether ringtap has such blocks."""
+    most = min(MOST_BLOCKS, LARGEST_RING // max(ring.block_size, 1))
+    slots = ring.block_size // ring.frame_size * ring.block_nr
+    return ring.block_size <= LARGEST_BLOCK and LEAST_BLOCKS <= ring.block_nr <= most and slots <= MOST_SLOTS
 
 
 def ring_lines(ring: Ring, captures: list[str]) -> list[str]:
@@ -228,6 +266,12 @@ def suricata_setup(args: argparse.Namespace) -> str:
     if expression:
         lines.append(f"# Its filter: tcpdump -y EN10MB -ddd '{expression}' >FILE, and a line `filter FILE`.")
     return "\n".join(lines) + "\n"
+
+
+def check_name(name: str) -> None:
+    """Whether a setup can name a capture so."""
+    if not (name.isascii() and name.isprintable() and " " not in name and 1 <= len(name) <= LARGEST_NAME):
+        raise Fault(f"the name {name!r} can't stand in a setup: ASCII without blanks, of at most {LARGEST_NAME} bytes")
 
 
 def shown_by_ss() -> str:
@@ -296,11 +340,16 @@ def main(words: list[str]) -> int:
     args = parser_of().parse_args(words)
     if args.threads is not None and args.threads < 1:
         raise Fault("--threads: a number of at least 1")
+    for name in args.captures:
+        check_name(name)
     outputs = [args.output, Path(f"{args.output}.ddd")] if args.output else []
     check_outputs(outputs, [*map(Path, args.captures), *filter(None, [args.shown, args.suricata])])
     answer = answer_of(args)
     for warning in answer.warnings:
         print(f"{Path(sys.argv[0]).name}: {warning}", file=sys.stderr)
+    lines = answer.setup.splitlines()
+    if "mode rollover" in lines or "flag rollover" in lines:
+        print(ROLLOVER_NOTE, file=sys.stderr)
     if answer.filter_name:
         write_text(Path(answer.filter_name), "\n".join([str(len(answer.instructions)), *answer.instructions]) + "\n")
     if args.output:

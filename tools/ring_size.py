@@ -1,12 +1,14 @@
 #!/usr/bin/env python3
-"""Names the least ring that loses nothing of some captures, and how to ask tcpdump and Suricata for it.
+"""Names the least ring that never freezes over some captures, and how to ask tcpdump, dumpcap and Suricata for it.
 
-Give the captures of the CPUs, one each, or a setup. A grid of rings is run: every block size, number of blocks, time-out, number of members and
-mode that is given with each of the others. Without --block-nr the number of blocks is doubled from 2 on until nothing is lost, and once more; then
-it is halved to the least that loses nothing. Each ring is run at several phases of the timer, since it isn't known when a program starts it, and counts as its worst one.
+Give the captures of the CPUs, one each, or a setup. A grid of rings is tried: every block size, number of blocks, time-out, number of members and
+mode that is given with each of the others. It isn't known when a program starts its timer, so a model of the tool's own looks at every whole
+millisecond of it, and finds the least ring and the phase at which it has to be so large; `ringtap replay` then judges: there it never freezes, and one
+block less freezes. With --phases, with rollover and for slots the program itself is run at so many phases, the number of blocks being doubled and
+then halved to the least that loses nothing.
 
-The feeds have the captures' own times. The memory is that of the blocks of all members together. The status is 0 where a ring loses nothing, and
-3 where none does.
+The feeds have the captures' own times, or a rate. The memory is that of the blocks of all members together. The status is 0 where a ring
+suffices, 3 where none does, and 4 where the captures give no answer: no frame, all filtered, or only a part of them was read.
 """
 from __future__ import annotations
 
@@ -15,21 +17,30 @@ import csv
 import io
 import itertools
 import sys
+import tempfile
 from collections import Counter
+from dataclasses import dataclass
 from fractions import Fraction
 from pathlib import Path
 from typing import Callable
 
 sys.path.insert(0, str(Path(__file__).resolve().parent))  # which `python3 -I` leaves out
 
-from ringtap_captures import GZIP_MAGIC, PCAP_UNITS, PCAPNG_MAGIC
+from ringtap_about import NO_ANSWER, NoAnswer, about_object, about_words, refuse_filtered, refuse_parts
+from ringtap_advice import Advice, advice_of, use_longer
+from ringtap_answers import Search, every_phase, few_phases, kernel_words, rolls_over
+from ringtap_captures import GZIP_MAGIC, LARGEST_CAPTURE, PCAP_UNITS, PCAPNG_MAGIC, CaptureWriter
 from ringtap_clock import Pace
 from ringtap_files import LARGEST_NAME, MODES, NANOSECONDS, CpuLine, Fault, Setup, read_setup, run_main
+from ringtap_filters import compiled
 from ringtap_outputs import check_folder, check_outputs, write_text
+from ringtap_notes import rollover_note
+from ringtap_refusals import KEY, unknown_mode
 from ringtap_runs import Room, add_program, program_of, table
+from ringtap_search import FEW_PHASES, Model
 from ringtap_trials import (
-    LEAST_BLOCKS, MOST_BLOCKS, ROLLOVER, Result, Ring, Trials, changes_of, evenness, largest_by_mode, least_of, lines_of, members_of,
-    suricata_lines,
+    LEAST_BLOCKS, MOST_BLOCKS, RESERVED, ROLLOVER, Result, Ring, Trials, answers_by_mode, changes_of, evenness,
+    least_of, lines_of, members_of,
 )
 from ringtap_words import ToolParser, add_json, print_json
 from schedule import Fed, add_pace, feeds, pace_of
@@ -40,6 +51,8 @@ LARGEST_BLOCK = 1_048_576
 MOST_MEMBERS, MOST_CPUS, MOST_PHASES = 8, 8, 1000
 MOST_TIMEOUT = 60_000  # milliseconds
 NONE_SUFFICES = 3  # the status
+KEYS, MOST_KEYS, MOST_LOOPS = 16, 256, 10_000
+RESERVED_MARK = "PACKET_RESERVE 4"  # in a setup that ring_of.py wrote of a program of libpcap
 KEPT_COLOR, DROPPED_COLOR = "#0072b2", "#d55e00"
 # What is taken for captures alone: the ring that tcpdump asks for, and a reader that comes ten times a second.
 TCPDUMP_BLOCK, TCPDUMP_TIMEOUT = 262_144, 1000
@@ -68,7 +81,8 @@ def modes(text: str) -> list[str]:
     allowed = [*MODES, *(mode + ROLLOVER for mode in MODES if mode != "rollover")]
     for word in text.split(","):
         if word not in allowed:
-            raise argparse.ArgumentTypeError(f"{word!r} is no mode: {', '.join(MODES)}, and hash{ROLLOVER} for one with the flag")
+            more = f", and hash{ROLLOVER} for one with the flag"
+            raise argparse.ArgumentTypeError(f"{word!r}: {unknown_mode(word)}{more}")
     return list(dict.fromkeys(text.split(",")))
 
 
@@ -104,7 +118,7 @@ def setup_of(paths: list[Path], is_v2: bool) -> Setup:
 
 def is_made(setup: Setup) -> bool:
     """Whether a setup was made here, for captures."""
-    return setup.cpus[0].line == 0
+    return bool(setup.cpus) and setup.cpus[0].line == 0
 
 
 def grid_of(setup: Setup, args: argparse.Namespace) -> list[Ring]:
@@ -131,15 +145,18 @@ def grid_of(setup: Setup, args: argparse.Namespace) -> list[Ring]:
 def chosen_key(setup: Setup) -> None:
     """Gives the usual key of receive side scaling to a setup that was made here; another has to have its own."""
     if not is_made(setup):
-        raise Fault(f"{setup.path}: has no line `key`, and mode hash needs one")
-    key = "6d5a56da255b0ec24167253d43a38fb0d0ca2bcbae7b30b477cb2da38030f20c6a42b73bbeac01fa"
-    setup.lines.append(f"key {key}")
-    setup.values["key"] = [key]
+        raise Fault(f'{setup.path}: has no line "key", and mode hash needs one, as "key {KEY}"')
+    setup.lines.append(f"key {KEY}")
+    setup.values["key"] = [KEY]
 
 
 def reader_words(pace: Pace, unit: str) -> str:
     """What the readers do, in words."""
-    if pace.blocks:
+    if pace.poll is not None:
+        delay = f" {float(pace.poll):g} ms after" if pace.poll else " when"
+        one = "slot" if unit == "slots" else "block"
+        words = f"each reader wakes{delay} a {one} is handed over, then takes all that is there"
+    elif pace.blocks:
         words = f"each reader takes {float(pace.blocks):g} {unit} a second"
     elif pace.bytes:
         words = f"each reader takes {unit} of {float(pace.bytes):g} bytes in all a second"
@@ -176,56 +193,42 @@ def row_of(result: Result) -> list[object]:
 
 
 def phases_words(result: Result) -> str:
+    if result.drops_by_phase:
+        return ", at every whole millisecond of the timer"
     count = len(result.phases)
     return "" if count == 1 else f" at each of {count} phases of the timer"
 
 
+def lost_words(result: Result) -> str:
+    """What a ring loses, from its best phase to its worst."""
+    lost = f"{result.fewest:,} to {result.drops:,}" if result.fewest != result.drops else f"{result.drops:,}"
+    packets = f"{lost} of {result.worst.kept + result.drops:,} packets"
+    if result.drops_by_phase:
+        return f"{result.ring.block_nr} blocks freeze, and lose {packets}, by the phase"
+    return f"with {result.ring.block_nr} blocks {packets} are lost"
+
+
 def verdict_of(results: list[Result], least: Result | None) -> list[str]:
-    """The least ring that loses nothing, in words, and the largest of its line that does."""
+    """The least ring that suffices, in words, and the largest of its line that doesn't."""
     if least is None:
-        fewest = min(results, key=lambda result: (result.drops, result.ring.memory))
+        best = min(results, key=lambda result: (result.drops, result.ring.memory))
         return ["every ring that was tried loses packets: no ring suffices",
-                f"the fewest: {fewest.drops:,} of {fewest.worst.kept + fewest.drops:,}, by {fewest.ring.words()}"]
+                f"the smallest loss: {best.drops:,} of {best.worst.kept + best.drops:,}, by {best.ring.words()}"]
     line = next(line for line in lines_of(results) if least in line)
     smaller = [result for result in line if result.ring.block_nr < least.ring.block_nr]
     what = "least ring" if smaller or least.ring.block_nr == LEAST_BLOCKS else "least ring of those tried"
-    said = [f"the {what} that loses nothing{phases_words(least)}: {least.ring.words()}; {kib(least.ring.memory)} in all"]
-    if smaller:
-        before = smaller[-1]
-        lost = f"{before.fewest:,} to {before.drops:,}" if before.fewest != before.drops else f"{before.drops:,}"
-        said.append(f"with {before.ring.block_nr} blocks {lost} of {before.worst.kept + before.drops:,} packets are lost")
-    return said
-
-
-def advice(trials: Trials, least: Result) -> dict[str, object]:
-    """How other programs are asked for such a ring."""
-    ring, found = least.ring, {}
-    if (ring.block_size, ring.members, ring.timeout) == (TCPDUMP_BLOCK, 1, TCPDUMP_TIMEOUT) and not ring.is_v2:
-        if blocks := trials.libpcap_blocks(ring):
-            found["tcpdump"] = f"tcpdump -B {blocks * TCPDUMP_BLOCK // 1024}"
-    if not ring.is_v2:
-        found["suricata"] = suricata_lines(ring)
-    return found
-
-
-def advice_words(found: dict[str, object]) -> list[str]:
-    lines = []
-    if "tcpdump" in found:
-        lines.append(f"{found['tcpdump']}   (tried with the 4 bytes that libpcap has more before each packet)")
-    elif found:
-        lines.append(f"for tcpdump, whose blocks have 262144 bytes: --block-size 256K --tov {TCPDUMP_TIMEOUT} --members 1")
-    if "suricata" in found:
-        lines += ["suricata.yaml, under af-packet (by its documentation, not tried):", *(f"    {line}" for line in found["suricata"])]
-    return lines
+    does = "never freezes" if least.drops_by_phase else "loses nothing"
+    said = [f"the {what} that {does}{phases_words(least)}: {least.ring.words()}; {kib(least.ring.memory)} in all"]
+    return said + ([lost_words(smaller[-1])] if smaller else [])
 
 
 MEMBER_HEADS = ["mode", "members", "member", "kept", "drops", "bytes kept"]
 
 
 def member_rows(trials: Trials, results: list[Result]) -> list[list[object]]:
-    """What each member kept and dropped, at the largest ring of each mode."""
+    """What each member kept and dropped, at the answer's ring of each mode."""
     rows = []
-    for result in largest_by_mode(results):
+    for result in answers_by_mode(results):
         kept = trials.kept_bytes(result)
         for at, member in enumerate(members_of(result)):
             rows.append([result.ring.mode, result.ring.members, at, member.kept, member.drops, kept[at]])
@@ -294,7 +297,7 @@ def packets_picture(rows: list[list[object]], title: str) -> str:
     groups = [f"{row[0]}, {row[1]}" for row in rows]
     layers = [Layer("kept", [row[3] for row in rows]), Layer("dropped", [row[4] for row in rows])]
     return bars_chart(
-        "Packets for each member, at the largest ring of each mode", "member, by mode and number of members", "packets",
+        "Packets for each member, at the least ring of each mode that suffices", "member, by mode and number of members", "packets",
         names, layers, [KEPT_COLOR, DROPPED_COLOR], groups, title,
     )
 
@@ -342,8 +345,14 @@ def parser_of() -> argparse.ArgumentParser:
     grid.add_argument("--mode", type=modes, metavar="MODE,..", help=f"of {', '.join(MODES)}; hash{ROLLOVER} is hash with `flag rollover`")
     grid.add_argument("--replay2", action="store_true", help="rings of TPACKET_V2: slots of frame_size bytes, and no timer")
     add_pace(parser, has_phase=False)
-    parser.add_argument("--phases", type=int, default=8, metavar="N", help="so many phases of the timer, evenly over a time-out (8)")
-    parser.add_argument("-o", "--output", type=Path, metavar="FILE", help="saves a setup with the least ring that loses nothing")
+    parser.add_argument("--loop", type=int, default=1, metavar="N", help="the captures come N times, one after another (1)")
+    parser.add_argument("--phases", type=int, metavar="N",
+                        help=f"run the program at N phases of the timer, evenly over a time-out (all, by a model; with rollover {FEW_PHASES})")
+    parser.add_argument("--keys", type=int, default=KEYS, metavar="N",
+                        help=f"for mode hash so many other keys beside the setup's ({KEYS}), since a kernel's is secret")
+    parser.add_argument("--filter", metavar="EXPR", help="a filter, which `tcpdump -y EN10MB -ddd` compiles; with -o FILE it goes into FILE.ddd")
+    parser.add_argument("--libpcap", action="store_true", help="the program reserves 4 bytes more of each packet, as all of libpcap's do")
+    parser.add_argument("-o", "--output", type=Path, metavar="FILE", help="saves a setup with the least ring that suffices")
     parser.add_argument("--pictures", type=Path, metavar="FOLDER", help="draws drops.svg and packets.svg there, beside table.csv")
     parser.add_argument("--png", action="store_true", help="draws PNG in place of SVG, where rsvg-convert is there")
     parser.add_argument("--jobs", type=int, default=1, metavar="N", help="makes N runs at once (1)")
@@ -356,12 +365,16 @@ def check_words(args: argparse.Namespace, setup: Setup, pace: Pace) -> None:
     """What options alone, or with the setup, show to be wrong, before anything is run."""
     if args.png and not args.pictures:
         raise Fault("--png: says how pictures are drawn, and --pictures where")
-    if not 1 <= args.phases <= MOST_PHASES:
+    if args.phases is not None and not 1 <= args.phases <= MOST_PHASES:
         raise Fault(f"--phases: a number from 1 to {MOST_PHASES}")
     if args.jobs < 1:
         raise Fault("--jobs: a number from 1 on")
+    if not 0 <= args.keys <= MOST_KEYS:
+        raise Fault(f"--keys: a number from 0 to {MOST_KEYS}")
+    if not 1 <= args.loop <= MOST_LOOPS:
+        raise Fault(f"--loop: a number from 1 to {MOST_LOOPS:,}")
     if pace.stalls and not pace.has_reader:
-        raise Fault("--stall: says when no reader reads, and nobody reads at all: --blocks, --bytes or --pause gives a reader")
+        raise Fault("--stall: says when no reader reads, and nobody reads at all: --blocks, --bytes, --pause or --poll gives a reader")
     if args.replay2 and args.tov:
         raise Fault("--tov: a ring of TPACKET_V2 has no time-out")
     if args.output and is_made(setup):
@@ -372,7 +385,8 @@ def check_words(args: argparse.Namespace, setup: Setup, pace: Pace) -> None:
         check_folder(args.pictures)
         for name in names[1:]:
             check_picture(name)
-    check_outputs([args.output, *(name for name in names if args.pictures.is_dir())], args.inputs, setup)
+    beside = [filter_path(args.output)] if args.output and args.filter is not None else []
+    check_outputs([args.output, *beside, *(name for name in names if args.pictures.is_dir())], args.inputs, setup)
 
 
 def check_name(name: str) -> None:
@@ -386,7 +400,8 @@ def check_name(name: str) -> None:
 
 def pace_for(args: argparse.Namespace, setup: Setup) -> tuple[Pace, bool]:
     """The pace, and whether its reader is the one that captures have by default."""
-    is_default = is_made(setup) and not (args.blocks or args.bytes or args.pause)
+    has_reader = args.blocks or args.bytes or args.pause or args.poll is not None
+    is_default = is_made(setup) and not has_reader
     if is_default:
         args.pause = PAUSE
     return pace_of(args), is_default
@@ -399,36 +414,153 @@ def title_of(setup: Setup, fed: Fed, words: str) -> str:
     return f"{shown}: {len(fed.times):,} frames in {fed.end / NANOSECONDS:.3f} s; {words}"
 
 
-def print_words(first: str, results: list[Result], rows: list[list[object]], least: Result | None, found: dict[str, object]) -> None:
+@dataclass
+class Answer:
+    """What was found."""
+
+    results: list[Result]
+    least: Result | None
+    rows: list[list[object]]  # what each member kept and dropped
+    advice: list[Advice]
+    fed: Fed
+    filtered: int
+    judgement: list[str]  # what the program said of the answer and of its neighbour
+    keys: list[str]
+    kernel: list[str]  # losses as a kernel rolls over, by the tool's own model
+
+
+def print_words(first: str, answer: Answer) -> None:
+    results = answer.results
     print(f"{first}\n")
     print(table(HEADS, [row_of(result) for result in results]))
     print()
-    print("\n".join(verdict_of(results, least)))
-    if len({(result.ring.mode, result.ring.members) for result in results}) > 1 or results[0].ring.members > 1:
-        print("\nat the largest ring of each mode:\n")
-        print(table(MEMBER_HEADS, rows))
+    said = [*answer.judgement, *answer.keys, *answer.kernel]
+    print("\n".join([*verdict_of(results, answer.least), *said]))
+    if len({(one.ring.mode, one.ring.members) for one in results}) > 1 or results[0].ring.members > 1:
+        print("\nat the least ring of each mode that suffices, or else its largest:\n")
+        print(table(MEMBER_HEADS, answer.rows))
         print("\nthe largest member to the mean one:\n")
-        print(table(["mode", "members", "packets", "bytes kept"], evenness_rows(rows)))
-    if found:
+        print(table(["mode", "members", "packets", "bytes kept"], evenness_rows(answer.rows)))
+    if answer.advice:
         print()
-        print("\n".join(advice_words(found)))
+        print("\n".join(line for one in answer.advice for line in one.words()))
+        if all(one.program == "suricata" for one in answer.advice) and answer.least.ring.members == 1:
+            asked = f"--block-size 256K --tov {TCPDUMP_TIMEOUT}"
+            print(f"for tcpdump and dumpcap, whose blocks have 262144 bytes: {asked}")
+    print(f"\n{about_words(answer.fed.about, answer.filtered)}")
 
 
-def object_of(first: str, results: list[Result], rows: list[list[object]], least: Result | None, found: dict[str, object]) -> dict[str, object]:
+def reader_object(pace: Pace) -> dict[str, object]:
+    """The reader in numbers."""
+    numbers = {"blocks": pace.blocks, "bytes": pace.bytes, "pause": pace.pause, "poll": pace.poll}
+    stalls = [[float(start), float(length)] for start, length in pace.stalls]
+    shown = {name: float(value) for name, value in numbers.items() if value is not None}
+    return shown | {"stalls": stalls}
+
+
+def object_of(pace: Pace, answer: Answer) -> dict[str, object]:
     """The same as one object."""
-    return {
-        "basis": first,
-        "rings": [dict(zip(HEADS, row_of(result))) | {"drops_by_phase": [report.drops for report in result.reports]} for result in results],
+    least, rings = answer.least, []
+    for result in answer.results:
+        drops = list(result.drops_by_phase) or [report.drops for report in result.reports]
+        more = {"drops_by_phase": drops, "key": result.key}
+        rings.append(dict(zip(HEADS, row_of(result))) | more)
+    names = [head.replace(" ", "_") for head in MEMBER_HEADS]
+    made: dict[str, object] = {
+        "reader": reader_object(pace),
+        "about": about_object(answer.fed.about, answer.filtered),
+        "rings": rings,
         "least": dict(zip(HEADS, row_of(least))) if least else None,
-        "members": [dict(zip([head.replace(" ", "_") for head in MEMBER_HEADS], row)) for row in rows],
-        "evenness": [{"mode": row[0], "members": row[1], "packets": float(row[2]), "bytes": float(row[3])} for row in evenness_rows(rows)],
-        **found,
+        "is_every_millisecond": bool(least and least.drops_by_phase),
+        "members": [dict(zip(names, row)) for row in answer.rows],
+        "evenness": [
+            {"mode": row[0], "members": row[1], "packets": float(row[2]), "bytes": float(row[3])}
+            for row in evenness_rows(answer.rows)
+        ],
     }
+    return made | {one.program: one.object() for one in answer.advice}
 
 
-def save_setup(path: Path, setup: Setup, least: Result) -> None:
+def save_setup(path: Path, setup: Setup, least: Result, instructions: str | None) -> None:
     changes = changes_of(least.ring, "rollover" in setup.flags)
+    if instructions:
+        write_text(filter_path(path), instructions)
+        changes["filter"] = str(filter_path(path))
     write_text(path, setup.with_changes(changes, [cpu.name for cpu in setup.cpus]))
+
+
+def filter_path(output: Path) -> Path:
+    return output.with_name(f"{output.name}.ddd")
+
+
+def take_filter(setup: Setup, instructions: str, folder: str) -> None:
+    """Gives a filter to a setup that has none."""
+    if "filter" in setup.values:
+        raise Fault(f"{setup.path}, line {setup.places['filter']}: has a filter already, and --filter gives another")
+    path = Path(folder) / "filter.ddd"
+    write_text(path, instructions)
+    setup.lines.append(f"filter {path}")
+    setup.values["filter"], setup.places["filter"] = [str(path)], len(setup.lines)
+
+
+# ---- the search
+
+
+def repeat(room: Room, count: int) -> None:
+    """Makes the captures come several times, each time right after the last frame."""
+    names = []
+    for cpu, stream in enumerate(room.streams()):
+        name, frames = f"looped{cpu}.pcap", list(stream)
+        start = frames[0].time if frames else 0
+        length = max((frame.time for frame in frames), default=start) - start
+        with open(room.folder / name, "wb") as file:
+            writer = CaptureWriter(file)
+            for turn in range(count):
+                for frame in frames:
+                    writer.write(frame._replace(time=frame.time + turn * length))
+                if file.tell() > LARGEST_CAPTURE:
+                    size = "more than the 32 MiB that ringtap reads"
+                    raise Fault(f"--loop: {turn + 1} times {stream.path} is {size}")
+        names.append(name)
+    room.captures = names
+
+
+def looks_at_all(args: argparse.Namespace, grid: list[Ring], model: Model) -> bool:
+    """Whether every whole millisecond is looked at: not for slots, nor with rollover."""
+    if args.phases is not None or args.replay2 or any(map(rolls_over, grid)):
+        return False
+    return model.timer(grid[0], 0).every > 0
+
+
+def found(
+    room: Room, args: argparse.Namespace, pace: Pace, setup: Setup, grid: list[Ring]
+) -> Answer:
+    """Everything that is worked out."""
+    if args.loop > 1:
+        repeat(room, args.loop)
+    fed = feeds(room.streams(), pace)
+    refuse_parts(fed.about)
+    is_reserved = args.libpcap or any(RESERVED_MARK in line for line in setup.lines)
+    model = Model(room, fed, pace, RESERVED * is_reserved)
+    trials = Trials(room, fed, pace, args.phases or FEW_PHASES, args.jobs)
+    if is_reserved and not use_longer(trials):
+        raise Fault(f"{setup.path}: with libpcap's bytes its captures are more than the 32 MiB that ringtap reads")
+    trials.reserved = RESERVED * is_reserved
+    trials.reads = model.reads if pace.poll is not None else None
+    search = Search(trials, model, args.keys)
+    is_open = not args.block_nr
+    if looks_at_all(args, grid, model):
+        results, least = every_phase(search, grid, is_open)
+        said, filtered = search.judgement, search.filtered
+    else:
+        is_sure = args.phases is None
+        results, least, said = few_phases(trials, grid, is_open, args.keys * is_sure, is_sure)
+        filtered = results[0].worst.filtered
+        refuse_filtered(fed.about, results[0].worst.arrivals, filtered)
+    kernel, rows, asked = kernel_words(model, results), member_rows(trials, results), []
+    if least and not args.replay2:
+        asked = advice_of(trials, model, least.ring, is_reserved)
+    return Answer(results, least, rows, asked, fed, filtered, said, search.key_words, kernel)
 
 
 def main(words: list[str]) -> int:
@@ -437,25 +569,31 @@ def main(words: list[str]) -> int:
     pace, is_default = pace_for(args, setup)
     check_words(args, setup, pace)
     grid = grid_of(setup, args)
-    with Room(setup, program) as room:
-        fed = feeds(room.streams(), pace.speed)
-        trials = Trials(room, fed, pace, args.phases, args.jobs)
-        results = trials.halved(trials.run_all(grid) if args.block_nr else trials.doubled(grid))
-        least = least_of(results)
-        rows = member_rows(trials, results)
-        found = advice(trials, least) if least else {}
-    first = opening(setup, args, pace, is_default)
+    instructions = compiled(args.filter) if args.filter is not None else None
+    for note in rollover_note(setup, [ring.mode for ring in grid if ring.members > 1]):
+        print(note, file=sys.stderr)
+    try:
+        with tempfile.TemporaryDirectory(prefix="ringtap-") as folder:
+            if instructions:
+                take_filter(setup, instructions, folder)
+            with Room(setup, program) as room:
+                answer = found(room, args, pace, setup, grid)
+    except NoAnswer as fault:
+        print(f"{Path(sys.argv[0]).name}: {fault}", file=sys.stderr)
+        return NO_ANSWER
+    least = answer.least
     if args.json:
-        print_json(object_of(first, results, rows, least, found))
+        print_json(object_of(pace, answer))
     else:
-        print_words(first, results, rows, least, found)
+        print_words(opening(setup, args, pace, is_default), answer)
     if args.pictures:
-        save_all(args, results, rows, title_of(setup, fed, reader_words(pace, "slots" if args.replay2 else "blocks")))
+        unit = "slots" if args.replay2 else "blocks"
+        save_all(args, answer.results, answer.rows, title_of(setup, answer.fed, reader_words(pace, unit)))
     if args.output and least:
-        save_setup(args.output, setup, least)
-    saved = [str(path) for path in [*picture_names(args), *([args.output] if args.output and least else [])]]
-    if saved and not args.json:
-        print(f"\nsaved: {', '.join(saved)}")
+        save_setup(args.output, setup, least, instructions)
+    made = [*picture_names(args), *([args.output] if args.output and least else [])]
+    if made and not args.json:
+        print(f"\nsaved: {', '.join(map(str, made))}")
     return 0 if least else NONE_SUFFICES
 
 

@@ -64,12 +64,14 @@ def numbered(room: Room) -> list[Frames]:
 
 
 def roomy_changes(captures: list[Frames], prefix: str) -> dict[str, str | None]:
-    """A group whose rings keep all: as many members as the frames need, which take turns."""
+    """A group whose rings keep all: as many members and blocks as the frames need; members take turns."""
     of_one = ROOMY_BLOCKS * LARGEST_BLOCK // 2  # half of a ring is left at ends of blocks, or where turns deal unevenly
-    members = min(MOST_MEMBERS, 1 + sum(frames.needs for frames in captures) // of_one)
+    needed = sum(frames.needs for frames in captures)
+    members = min(MOST_MEMBERS, 1 + needed // of_one)
+    blocks = min(ROOMY_BLOCKS, 2 + 2 * needed // (members * LARGEST_BLOCK))
     return {
-        "block_size": str(LARGEST_BLOCK), "block_nr": str(ROOMY_BLOCKS), "frame_size": "2048",
-        "frame_nr": str(LARGEST_BLOCK // 2048 * ROOMY_BLOCKS), "members": str(members), "mode": "lb", "out": prefix,
+        "block_size": str(LARGEST_BLOCK), "block_nr": str(blocks), "frame_size": "2048",
+        "frame_nr": str(LARGEST_BLOCK // 2048 * blocks), "members": str(members), "mode": "lb", "out": prefix,
         "priv": None, "tov": None, "dump": None,
     }
 

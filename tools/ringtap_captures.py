@@ -32,8 +32,11 @@ PCAP_HEADER, RECORD_HEADER = 24, 16
 PCAPNG_MAGIC = b"\x0a\x0d\x0d\x0a"
 BYTE_ORDER_MAGIC = 0x1A2B3C4D
 GZIP_MAGIC = b"\x1f\x8b"
+# A gzip of more bytes than these that is so many times smaller is no capture's, or one of no use.
+LEAST_UNPACKED, MOST_RATIO = 67_108_864, 200
 SECTION, INTERFACE, SIMPLE, ENHANCED = 0x0A0D0D0A, 1, 3, 6  # types of pcapng blocks that are read
 LEAST_LENGTHS = {SECTION: 28, INTERFACE: 20, ENHANCED: 32, SIMPLE: 16}
+STATISTICS, ISB_IFDROP, ISB_OSDROP = 5, 5, 7  # a block of another type, and options of it
 IF_TSRESOL = 9
 ETHERNET = 1
 MICROSECONDS = (1000, 1)
@@ -70,6 +73,7 @@ class Unpacker(io.RawIOBase):
         self.path, self.file, self.is_cut = path, file, False
         self.member = zlib.decompressobj(wbits=31)
         self.packed = b""
+        self.count = 0  # bytes that were unpacked
 
     def read(self, size: int = PIECE) -> bytes:
         """At most so many bytes; none at the end."""
@@ -92,6 +96,12 @@ class Unpacker(io.RawIOBase):
         except zlib.error:
             raise Fault(f"{self.path}: its gzip is damaged, before byte {self.file.tell()}") from None
         self.packed = self.member.unused_data if self.member.eof else self.member.unconsumed_tail
+        self.count += len(piece)
+        if self.count > max(LEAST_UNPACKED, MOST_RATIO * self.file.tell()):
+            raise Fault(
+                f"{self.path}: its gzip unpacks to more than {MOST_RATIO} times its size, so it is read no"
+                f" further: unpack it by `gzip -dc`, and give that file"
+            )
         return piece
 
     def next_member(self) -> None:
@@ -201,14 +211,27 @@ class CaptureStream:
         self.limit = limit
         self.pieces = Pieces(file or unpacked(path), limit, self.path)
         self.end = "ok"
+        self.is_explained = True  # whether a refusal is in the words of run.py
+        self.drops: int | None = None  # those that a pcapng's statistics tell, of all interfaces
 
     def __iter__(self) -> Iterator[Frame]:
         self.pieces.has(len(PCAPNG_MAGIC))
         is_next = self.pieces.data.startswith(PCAPNG_MAGIC)
         try:
             yield from PcapngFrames(self).frames() if is_next else pcap_frames(self)
+        except RefusedHeader as fault:
+            raise self.explained(fault) from None
         finally:
             self.pieces.file.close()
+
+    def explained(self, fault: RefusedHeader) -> RefusedHeader:
+        """The refusal in the words by which run.py explains it, where the file can be looked at."""
+        from ringtap_kinds import explain_end  # which reads captures itself
+
+        is_plain_words = not self.is_explained or isinstance(self.pieces.file, Unpacker)
+        if is_plain_words or not self.path.is_file():
+            return fault
+        return RefusedHeader(fault.end, explain_end(self.path, fault.end) or str(fault))
 
     def stop(self, damage: str | None = None, place: int | None = None) -> None:
         """Says how the capture ends, where its frames end."""
@@ -270,6 +293,8 @@ class PcapngFrames:
         self.order = "<"
         self.interfaces: list[Interface] = []
         self.index = 0
+        self.told: dict[tuple[int, int], int] = {}  # drops of this section's interfaces
+        self.told_before = 0  # and of all sections before it
 
     def frames(self) -> Iterator[Frame]:
         pieces = self.pieces
@@ -285,6 +310,8 @@ class PcapngFrames:
             if length % 4 or length < LEAST_LENGTHS.get(kind, 12) or kind in LEAST_LENGTHS and length > LARGEST_READ_BLOCK:
                 return self.stream.stop(f"bad_length {place}")
             if kind not in LEAST_LENGTHS:
+                if kind == STATISTICS and length <= LARGEST_READ_BLOCK and pieces.has(length):
+                    self.count_drops(length)
                 if not self.skip_block(length, place):
                     return
                 continue
@@ -321,6 +348,19 @@ class PcapngFrames:
         self.pieces.at += 4
         return True
 
+    def count_drops(self, length: int) -> None:
+        """Takes what an interface statistics block tells of drops, by the interface or the system;
+        of several blocks of an interface the last one counts."""
+        at, end = 20, length - 4
+        while at + 4 <= end:
+            code, size = self.numbers("HH", at)
+            if code == 0 or at + 4 + size > end:
+                return
+            if code in (ISB_IFDROP, ISB_OSDROP) and size == 8:
+                self.told[self.numbers("I", 8)[0], code] = self.numbers("Q", at + 4)[0]
+                self.stream.drops = self.told_before + sum(self.told.values())
+            at += 4 + (size + 3) // 4 * 4
+
     def refuse(self, damage: str, sentence: str | None = None) -> None:
         """Ends the capture; before its first interface a header that is refused is a fault."""
         if sentence and not self.index and not self.interfaces:
@@ -336,6 +376,7 @@ class PcapngFrames:
             if major != 1:
                 return "bad_version 0", f"byte {place + 12}: is of version {major}, and ringtap reads pcapng of version 1"
             self.interfaces = []
+            self.told_before, self.told = self.told_before + sum(self.told.values()), {}
         elif kind == INTERFACE:
             link = self.numbers("H", 8)[0]
             if link != ETHERNET:

@@ -29,12 +29,15 @@ class Pace:
     blocks: Fraction | None = None  # blocks a second that a reader takes
     bytes: Fraction | None = None  # bytes a second
     pause: Fraction | None = None  # milliseconds that a reader sleeps before it takes all that is there
+    poll: Fraction | None = None  # milliseconds from a hand-over to the reader, who then takes all that is there
     stalls: tuple[tuple[Fraction, Fraction], ...] = ()  # from which millisecond on, for how many, no reader reads
     stats: Fraction = Fraction(0)  # seconds; 0 never
+    packets: Fraction | None = None  # that come a second, whatever the captures' times
+    bits: Fraction | None = None  # the same of bits on the wire
 
     @property
     def has_reader(self) -> bool:
-        return bool(self.blocks or self.bytes or self.pause)
+        return bool(self.blocks or self.bytes or self.pause) or self.poll is not None
 
 
 @dataclass(frozen=True)
@@ -55,7 +58,7 @@ class Beat:
     shift: int = 0
 
     def moment(self, number: int) -> int:
-        return int(self.period * number) - self.shift
+        return self.period.numerator * number // self.period.denominator - self.shift
 
     def first_from(self, time: int) -> int:
         """The number of the first moment at or after a time."""
@@ -110,6 +113,30 @@ class Ticker:
         return is_due and could_retire
 
 
+class GivenReads:
+    """Reads that were worked out before: at each time, which members' readers read how often."""
+
+    def __init__(self, reads: list[list[int]]) -> None:
+        """The times of each member's reads, rising."""
+        lines: dict[int, str] = {}
+        for member, times in enumerate(reads):
+            for time in times:
+                lines[time] = lines.get(time, "") + f"read {member}\n"
+        self.lines = sorted((time, text) for time, text in lines.items() if time < NEVER)
+        self.at = 0
+
+    @property
+    def time(self) -> int | None:
+        return self.lines[self.at][0] if self.at < len(self.lines) else None
+
+    def add(self, now: int) -> None:
+        """What may wait is known already."""
+
+    def take(self) -> str:
+        self.at += 1
+        return self.lines[self.at - 1][1]
+
+
 class Readers:
     """The readers' steps. Each feed, and each tick that retires, can make one block more wait for a member."""
 
@@ -160,10 +187,10 @@ class Readers:
 class Beside:
     """All that happens beside the feeds. At one moment ticks come first, then feeds, then reads, then statistics."""
 
-    def __init__(self, pace: Pace, shape: Shape) -> None:
+    def __init__(self, pace: Pace, shape: Shape, reads: list[list[int]] | None = None) -> None:
         every = shape.timeout if pace.tick is None else pace.tick
         self.ticker = Ticker(every, shape.timeout, pace.phase) if every and shape.timeout else None
-        self.readers = Readers(pace, shape)
+        self.readers = Readers(pace, shape) if reads is None else GivenReads(reads)
         self.stats = Beat(pace.stats * NANOSECONDS) if pace.stats else None
         self.counted = "".join(f"stats {member}\n" for member in range(shape.members))
         self.stats_number = 1

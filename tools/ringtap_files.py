@@ -18,6 +18,11 @@ LARGEST_NUMBER = 4_294_967_295
 MOST_MEMBERS = 8
 MODES = ("hash", "lb", "cpu", "rollover", "qm")
 NANOSECONDS = 1_000_000_000
+UTF8_MARK = b"\xef\xbb\xbf"
+CAPTURE_MAGICS = tuple(
+    bytes.fromhex(magic)
+    for magic in ("d4c3b2a1", "a1b2c3d4", "4d3cb2a1", "a1b23c4d", "0a0d0d0a")
+)
 
 
 class Fault(Exception):
@@ -113,6 +118,10 @@ class Setup:
         """Where the captures are; names count from the folder in which the tool runs, as they do for ringtap."""
         if not self.cpus:
             raise Fault(f"{self.path}: has no line `cpu`")
+        for cpu in self.cpus:
+            if cpu.line and not os.path.lexists(cpu.name):
+                where = "" if os.path.isabs(cpu.name) else f": names count from the folder {os.getcwd()}"
+                raise Fault(f"{self.path}, line {cpu.line}: {cpu.name} isn't there{where}")
         return [Path(cpu.name) for cpu in self.cpus]
 
     def with_changes(self, changes: dict[str, str | None], captures: list[str] | None = None) -> str:
@@ -152,6 +161,7 @@ def read_setup(path: Path) -> Setup:
     data = read_bytes(path)
     if len(data) > LARGEST_TEXT:
         raise Fault(f"{path}: has {len(data)} bytes, and ringtap reads setups of at most {LARGEST_TEXT}")
+    refuse_others(path, data)
     lines = data.decode("utf-8", "surrogateescape").split("\n")  # so that each byte is written again as it was
     if lines[-1] == "":
         lines.pop()
@@ -166,6 +176,15 @@ def read_setup(path: Path) -> Setup:
             setup.values.setdefault(word, values)
             setup.places.setdefault(word, number)
     return setup
+
+
+def refuse_others(path: Path, data: bytes) -> None:
+    """Ends a tool that was given a capture for a setup, or a text with a mark that no setup has."""
+    if data.startswith(UTF8_MARK):
+        mark = "a UTF-8 mark (the bytes ef bb bf)"
+        raise Fault(f"{path}, line 1: begins with {mark}: save it without one, as ASCII")
+    if data[:4] in CAPTURE_MAGICS or data.startswith(b"\x1f\x8b"):
+        raise Fault(f"{path}: is a capture, and a setup is wanted: one names it by a line `cpu {path}`")
 
 
 def cpu_line(path: Path, line: int, values: list[str], cpu: int) -> CpuLine:

@@ -140,7 +140,9 @@ def explain_magic(path: Path, _: int) -> str:
 def explain_header(path: Path, _: int) -> str:
     """What the reader of captures says of the header; of a link type its name too."""
     try:
-        for _ in CaptureStream(path):
+        stream = CaptureStream(path)
+        stream.is_explained = False
+        for _ in stream:
             pass
     except Fault as fault:
         told = re.sub(r"^(, byte \d+)?: ", "", str(fault).removeprefix(str(path)))

@@ -134,6 +134,8 @@ def explain_setup(refusal: Refusal, place: Place) -> tuple[int, str]:
 
 def wrong_byte(line: str) -> str:
     """The first byte that no text has, in words."""
+    if line.startswith("\ufeff"):
+        return "the line begins with a UTF-8 mark (the bytes ef bb bf): save the text without one, as ASCII"
     for at, char in enumerate(line, 1):
         if char != "\t" and not " " <= char <= "~":
             shown = f'"{char}"' if char.isprintable() else f"the byte 0x{ord(char) & 0xFF:02x}"

@@ -68,7 +68,7 @@ def environment_of(command: str, setup: Path, folder: Path = Path()) -> dict[str
 
 def words_for(command: str, setup: Setup, folder: Path) -> list[str]:
     """What the C library is told for a run. A capture that comes through a pipe doesn't count."""
-    captures = [path for name in setup.capture_paths() if (path := folder / name).is_file()]
+    captures = [path for cpu in setup.cpus if (path := folder / cpu.name).is_file()]
     size = sum(path.stat().st_size for path in captures)
     if size < LEAST_CAPTURES:
         return []
@@ -200,7 +200,8 @@ class Room:
     def link(self, where: str, path: Path, name: str) -> str:
         """Gives a file a short name here."""
         if not path.is_file() or not os.access(path, os.R_OK):
-            raise Fault(f"{where}: {path} isn't a file that can be read")
+            folder = "" if path.is_absolute() else f": names count from the folder {os.getcwd()}"
+            raise Fault(f"{where}: {path} isn't a file that can be read{folder}")
         (self.folder / name).symlink_to(path.resolve())
         return name
 
@@ -226,10 +227,21 @@ class Room:
         told = environment_of(command, self.folder / setup, self.folder)
         done = run_program(self.program, [command, setup, schedule], self.folder, told)
         if done.returncode not in (0, 4):
-            said = done.stdout.strip() or "it printed nothing"
-            where = self.texts.get(said.split()[0], self.setup.path)
-            raise Fault(f"{where}: {status_words(done.returncode)} (status {done.returncode}): {said}")
+            raise Fault(self.refused(done, command, setup, schedule))
         return report_of(done.stdout)
+
+    def refused(self, done: subprocess.CompletedProcess, command: str, setup: str, schedule: str) -> str:
+        """Why a run was none: the file, the line and what to change, as run.py says it."""
+        from ringtap_refusals import Place, explain, read_lines, refusal_of  # which run.py has too
+
+        said = done.stdout.strip() or "it printed nothing"
+        where = self.texts.get(said.split()[0], self.setup.path)
+        refusal = refusal_of(said)
+        if not refusal:
+            return f"{where}: {status_words(done.returncode)} (status {done.returncode}): {said}"
+        names = {"setup": setup, "schedule": schedule, "filter": "filter.ddd"}
+        lines = read_lines(self.folder / names.get(refusal.text, setup))
+        return f"{explain(refusal, Place(where, lines, command, self.setup))} ({said})"
 
 
 def run_program(program: Path, words: list[str], folder: Path, environment: dict[str, str]) -> subprocess.CompletedProcess:
@@ -266,13 +278,14 @@ class Progress:
 
     WIDTH = 30
 
-    def __init__(self, whole: int, what: str) -> None:
+    def __init__(self, whole: int, what: str, is_shown: bool = True) -> None:
         self.whole, self.what, self.done = whole, what, 0
-        self.shown = sys.stderr.isatty()
+        self.shown = is_shown and sys.stderr.isatty()
 
     def step(self) -> None:
         self.done += 1
-        if self.shown:
+        is_due = self.done == self.whole or self.done % max(1, self.whole // 200) == 0
+        if self.shown and is_due:
             full = self.WIDTH * self.done // max(self.whole, 1)
             bar = "#" * full + "." * (self.WIDTH - full)
             end = "\n" if self.done == self.whole else ""

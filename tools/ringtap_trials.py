@@ -7,19 +7,19 @@ from concurrent.futures import ThreadPoolExecutor
 from dataclasses import dataclass, replace
 from fractions import Fraction
 from pathlib import Path
+from typing import Callable
 
-from ringtap_captures import LARGEST_CAPTURE, CaptureStream, CaptureWriter
+from ringtap_captures import CaptureStream, CaptureWriter
 from ringtap_clock import Pace, Shape
 from ringtap_files import Fault
 from ringtap_outputs import write_text
 from ringtap_runs import MemberReport, Progress, Report, Room
-from schedule import DEFAULT_TIMEOUT, Fed, schedule_of
-from suricata_rings import DEFAULT_PENDING
+from schedule import DEFAULT_TIMEOUT, Fed, Reads, schedule_of
 
 LARGEST_RING, MOST_BLOCKS, MOST_SLOTS = 67_108_864, 256, 65_536
 LEAST_BLOCKS = 2
 ROLLOVER = "+rollover"  # after a mode, where the flag is set
-PACKET_HEADER, RESERVED = 82, 4  # bytes before a packet's data in a block, and those that libpcap has there besides
+RESERVED = 4  # bytes that libpcap has besides before each packet's data
 
 
 @dataclass(frozen=True)
@@ -54,6 +54,11 @@ class Ring:
             return f"{self.slots} slots of {self.frame_size} bytes, in {self.block_nr} blocks of {self.block_size} bytes{members}"
         return f"{self.block_nr} blocks of {self.block_size} bytes{members}, time-out {self.timeout or DEFAULT_TIMEOUT} ms"
 
+    def line_words(self) -> str:
+        """What a ring is but for its number of blocks."""
+        members = "" if self.members == 1 else f", {self.members} members by {self.mode}"
+        return f"blocks of {self.block_size} bytes{members}, time-out {self.timeout or DEFAULT_TIMEOUT} ms"
+
     def shape(self) -> Shape:
         """What a schedule has to know; one schedule does for every number of blocks."""
         if self.is_v2:
@@ -68,6 +73,8 @@ class Result:
     ring: Ring
     phases: tuple[int, ...]  # milliseconds
     reports: tuple[Report, ...]
+    drops_by_phase: tuple[int, ...] = ()  # at every phase, by the tools' own model
+    key: str | None = None  # under which the worst run was, where it isn't the setup's
 
     @property
     def worst(self) -> Report:
@@ -107,10 +114,12 @@ class Trials:
     def __init__(self, room: Room, fed: Fed, pace: Pace, phases: int, jobs: int) -> None:
         self.room, self.fed, self.pace, self.phases, self.jobs = room, fed, pace, phases, jobs
         self.has_flag = "rollover" in room.setup.flags
-        self.schedules: dict[tuple[Shape, int], str] = {}
+        self.schedules: dict[tuple, str] = {}
+        self.reads: Callable[[Ring, int, str | None], Reads] | None = None  # where they depend on the ring
         self.lock = threading.Lock()
         self.count = 0
         self.captures: list[str] | None = None  # other names than the room's
+        self.reserved = 0  # bytes by which the frames of these are longer
         for member in range(8):
             (room.folder / f"nowhere.{member}.pcap").symlink_to(os.devnull)
 
@@ -122,23 +131,26 @@ class Trials:
             return (0,)
         return tuple(sorted({every * number // self.phases for number in range(self.phases)}))
 
-    def schedule(self, ring: Ring, phase: int) -> str:
+    def schedule(self, ring: Ring, phase: int, key: str | None = None) -> str:
         """The name of the schedule for a ring."""
         with self.lock:
-            key = ring.shape(), phase
-            if key not in self.schedules:
+            place = (ring, phase, key) if self.reads else (ring.shape(), phase)
+            if place not in self.schedules:
                 name = f"schedule{len(self.schedules)}"
-                text = schedule_of(self.fed, replace(self.pace, phase=Fraction(phase)), ring.shape())
-                write_text(self.room.folder / name, text)
-                self.schedules[key] = name
-            return self.schedules[key]
+                reads = self.reads(ring, phase, key) if self.reads else None
+                pace = replace(self.pace, phase=Fraction(phase))
+                write_text(self.room.folder / name, schedule_of(self.fed, pace, ring.shape(), reads))
+                self.schedules[place] = name
+            return self.schedules[place]
 
-    def run(self, ring: Ring, phase: int, prefix: str = "nowhere") -> Report:
+    def run(self, ring: Ring, phase: int, prefix: str = "nowhere", key: str | None = None) -> Report:
+        """A run at a phase, and where a key is given under that one."""
         with self.lock:
             self.count += 1
             setup = f"setup{self.count}"
-        schedule = self.schedule(ring, phase)
-        self.room.write_setup(setup, changes_of(ring, self.has_flag, prefix), self.captures)
+        schedule = self.schedule(ring, phase, key)
+        changes = changes_of(ring, self.has_flag, prefix) | ({"key": key} if key else {})
+        self.room.write_setup(setup, changes, self.captures)
         report = self.room.replay(setup, schedule, "replay2" if ring.is_v2 else "replay")
         (self.room.folder / setup).unlink()
         return report
@@ -184,35 +196,12 @@ class Trials:
 
     def kept_bytes(self, result: Result) -> list[int]:
         """The bytes on the wire that each member kept, of the worst phase: the run is made again, and its captures are read."""
-        self.run(result.ring, result.worst_phase, "saved")
+        self.run(result.ring, result.worst_phase, "saved", result.key)
         paths = [self.room.folder / f"saved.{member}.pcap" for member in range(result.ring.members)]
-        sums = [sum(frame.wire for frame in CaptureStream(path, None)) for path in paths]
+        sums = [sum(frame.wire - self.reserved for frame in CaptureStream(path, None)) for path in paths]
         for path in paths:
             path.unlink()
         return sums
-
-    def libpcap_blocks(self, ring: Ring) -> int | None:
-        """How many blocks of this size libpcap needs, which has four bytes more before each packet's data: captures whose frames are that
-        much longer are run. None where ringtap has no such ring, or the captures come out too large."""
-        self.captures = [longer(stream, self.room.folder / f"longer{cpu}.pcap") for cpu, stream in enumerate(self.room.streams())]
-        if any((self.room.folder / name).stat().st_size > LARGEST_CAPTURE for name in self.captures):
-            return None
-        least = self.reserved_blocks(ring) if "filter" in self.room.setup.values else ring.block_nr
-        ring = replace(ring, block_nr=least)
-        while ring.fits:
-            if self.run_all([ring])[0].drops == 0:
-                return ring.block_nr
-            ring = replace(ring, block_nr=ring.block_nr + 1)
-        return None
-
-    def reserved_blocks(self, ring: Ring) -> int:
-        """How many blocks the same packets take with libpcap's bytes before them, rounded up: a filter may cut longer frames all the same."""
-        self.run(ring, 0, "saved")
-        path = self.room.folder / "saved.0.pcap"
-        lengths = [len(frame.data) for frame in CaptureStream(path, None)]
-        path.unlink()
-        ours, theirs = (sum(-(-(header + length) // 8) * 8 for length in lengths) for header in (PACKET_HEADER, PACKET_HEADER + RESERVED))
-        return -(-ring.block_nr * theirs // max(ours, 1)) if ours else ring.block_nr
 
 
 def longer(stream: CaptureStream, path: Path) -> str:
@@ -253,14 +242,15 @@ def least_of(results: list[Result]) -> Result | None:
     return min(whole, key=lambda result: (result.ring.memory, result.ring.members, result.ring.block_nr), default=None)
 
 
-def largest_by_mode(results: list[Result]) -> list[Result]:
-    """For each mode and number of members the result of the largest ring."""
-    largest: dict[tuple[str, int], Result] = {}
+def answers_by_mode(results: list[Result]) -> list[Result]:
+    """For each mode and number of members its least ring that loses nothing, or else its largest."""
+    groups: dict[tuple[str, int], list[Result]] = {}
     for result in results:
-        key = result.ring.mode, result.ring.members
-        if key not in largest or result.ring.memory > largest[key].ring.memory:
-            largest[key] = result
-    return list(largest.values())
+        groups.setdefault((result.ring.mode, result.ring.members), []).append(result)
+    return [
+        least_of(group) or max(group, key=lambda result: result.ring.memory)
+        for group in groups.values()
+    ]
 
 
 def evenness(numbers: list[int]) -> float:
@@ -270,18 +260,3 @@ def evenness(numbers: list[int]) -> float:
 
 def members_of(result: Result) -> tuple[MemberReport, ...]:
     return tuple(result.worst.members)
-
-
-def suricata_lines(ring: Ring) -> list[str]:
-    """The lines of af-packet in suricata.yaml that make such a ring, by its documentation and source: a frame of 1,514 bytes takes 1,600 there,
-    and a ring has `ring-size` by the frames of a block, rounded down, and one block more. If the rings of all threads have room for fewer packets
-    than `max-pending-packets`, it makes them larger, so that is asked for too."""
-    clusters = {"hash": "cluster_flow", "cpu": "cluster_cpu", "qm": "cluster_qm"}
-    packets = ring.block_nr * (ring.block_size // 1600) - 1
-    lines = [f"block-size: {ring.block_size}", f"ring-size: {packets}", f"block-timeout: {ring.timeout or DEFAULT_TIMEOUT}"]
-    if ring.members > 1:
-        cluster = clusters.get(ring.mode.removesuffix(ROLLOVER))
-        lines += [f"threads: {ring.members}"] + [f"cluster-type: {cluster}"] * (cluster is not None)
-    if packets * ring.members < DEFAULT_PENDING:
-        lines.append(f"max-pending-packets: {packets * ring.members}   (at the left margin; its default, {DEFAULT_PENDING}, makes the ring larger)")
-    return lines

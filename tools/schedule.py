@@ -28,12 +28,27 @@ from ringtap_words import ToolParser, add_json, counted, print_json
 DEFAULT_TIMEOUT = 8  # milliseconds, where the setup has 0 or none
 
 
+@dataclass
+class About:
+    """What a capture is, as far as a tool that reads its frames sees it."""
+
+    path: Path
+    frames: int = 0
+    first: int = 0  # nanoseconds, of the first frame and of the last
+    last: int = 0
+    cut: int = 0  # frames of which fewer bytes were captured than were on the wire
+    longest: int = 0  # captured bytes of a frame that was cut, at most
+    end: str = "ok"  # as ringtap prints it
+    drops: int | None = None  # those that a pcapng's statistics tell
+
+
 @dataclass(frozen=True)
 class Fed:
     """The frames of all CPUs in the order in which they come."""
 
     times: array  # nanoseconds from the first frame on
     cpus: bytes
+    about: tuple[About, ...] = ()
 
     @property
     def end(self) -> int:
@@ -49,36 +64,63 @@ def shape_of(setup: Setup, is_v2: bool = False) -> Shape:
     )
 
 
-def rising_times(stream: CaptureStream) -> array:
-    """The times of a capture's frames. One that is older than the one before it comes right after that."""
-    times, latest = array("Q"), 0
+def rising_times(stream: CaptureStream, lengths: array) -> tuple[array, About]:
+    """The times of a capture's frames, beside their lengths on the wire. One that is older than the
+    one before it comes right after that."""
+    times, latest, about = array("Q"), 0, About(stream.path)
     for frame in stream:
         latest = max(latest, frame.time)
         times.append(latest)
+        lengths.append(frame.wire)
+        if frame.wire > len(frame.data):
+            about.cut, about.longest = about.cut + 1, max(about.longest, len(frame.data))
+    about.frames, about.end, about.drops = len(times), stream.end, stream.drops
+    about.first, about.last = (times[0], times[-1]) if times else (0, 0)
     say_end(stream.path, stream.end, len(times))
-    return times
+    return times, about
 
 
-def feeds(streams: Iterable[CaptureStream], speed: Fraction) -> Fed:
-    """The frames of all CPUs by their times, at one time those of the lower CPU first; a CPU's frames stay in their order."""
-    captures = [rising_times(stream) for stream in streams]
+def feeds(streams: Iterable[CaptureStream], pace: Pace) -> Fed:
+    """The frames of all CPUs by their times, at one time those of the lower CPU first; a CPU's
+    frames stay in their order. A rate of packets or bits takes the place of their times."""
+    given = list(streams)
+    lengths = [array("I") for _ in given]
+    read = [rising_times(stream, mine) for stream, mine in zip(given, lengths)]
+    captures = [times for times, _ in read]
     first = min((times[0] for times in captures if times), default=0)
-    merged, cpus = array("Q"), bytearray()
+    merged, cpus, speed = array("Q"), bytearray(), pace.speed
     for time, cpu in merge(*map(numbered, captures, range(len(captures)))):
         try:
             merged.append((time - first) * speed.denominator // speed.numerator)
         except OverflowError:
-            raise Fault("--speed: so slow that the last frame comes more than 500 years after the first") from None
+            far = "so slow that the last frame comes more than 500 years after the first"
+            raise Fault(f"--speed: {far}") from None
         cpus.append(cpu)
-    return Fed(merged, bytes(cpus))
+    if pace.packets or pace.bits:
+        merged = at_rate(cpus, lengths, pace)
+    return Fed(merged, bytes(cpus), tuple(about for _, about in read))
+
+
+def at_rate(cpus: bytearray, lengths: list[array], pace: Pace) -> array:
+    """When frames come at a rate: each once those before it have been sent."""
+    times, sent, counts = array("Q"), 0, [0] * len(lengths)
+    per_unit = NANOSECONDS / (pace.packets or pace.bits)
+    for cpu in cpus:
+        times.append(int(sent * per_unit))
+        sent += 1 if pace.packets else 8 * lengths[cpu][counts[cpu]]
+        counts[cpu] += 1
+    return times
 
 
 def numbered(times: array, cpu: int) -> Iterator[tuple[int, int]]:
     return ((time, cpu) for time in times)
 
 
-def lines_of(fed: Fed, pace: Pace, shape: Shape) -> Iterator[str]:
-    beside = Beside(pace, shape)
+Reads = list[list[int]]  # of each member, when its reader reads
+
+
+def lines_of(fed: Fed, pace: Pace, shape: Shape, reads: Reads | None = None) -> Iterator[str]:
+    beside = Beside(pace, shape, reads)
     for time, cpu in zip(fed.times, fed.cpus):
         yield from beside.until(time, time)
         beside.feed(time)
@@ -86,10 +128,10 @@ def lines_of(fed: Fed, pace: Pace, shape: Shape) -> Iterator[str]:
     yield from beside.until(fed.end, fed.end + 1)
 
 
-def schedule_of(fed: Fed, pace: Pace, shape: Shape) -> str:
+def schedule_of(fed: Fed, pace: Pace, shape: Shape, reads: Reads | None = None) -> str:
     """The lines of a schedule. Longer than ringtap reads it is a fault."""
     lines, size, count = [], 0, 0
-    for text in lines_of(fed, pace, shape):
+    for text in lines_of(fed, pace, shape, reads):
         lines.append(text)
         size += len(text)
         count += text.startswith("feed")
@@ -127,7 +169,10 @@ def stall(text: str) -> tuple[Fraction, Fraction]:
 def add_pace(parser: argparse.ArgumentParser, has_phase: bool = True) -> None:
     """The options that say what is done beside the feeds."""
     group = parser.add_argument_group("time", "without a reader nobody reads before all frames are fed")
-    group.add_argument("--speed", type=positive, default=Fraction(1), metavar="X", help="frames come X times as fast (1)")
+    rate = group.add_mutually_exclusive_group()
+    rate.add_argument("--speed", type=positive, default=Fraction(1), metavar="X", help="frames come X times as fast (1)")
+    rate.add_argument("--pps", type=positive, metavar="N", help="N frames come a second, at even distances")
+    rate.add_argument("--mbps", type=positive, metavar="N", help="N million bits of frames come a second")
     group.add_argument("--tick", type=int, metavar="MS", help="a tick every MS milliseconds (the setup's time-out); 0 never")
     if has_phase:
         group.add_argument("--phase", type=not_negative, default=Fraction(0), metavar="MS",
@@ -136,6 +181,8 @@ def add_pace(parser: argparse.ArgumentParser, has_phase: bool = True) -> None:
     reader.add_argument("--blocks", type=positive, metavar="N", help="each reader makes a step, for one block, N times a second")
     reader.add_argument("--bytes", type=counted, metavar="N", help="the same so often that N bytes of blocks are read a second, as 1M")
     reader.add_argument("--pause", type=positive, metavar="MS", help="each reader sleeps MS milliseconds, then takes all that is there")
+    reader.add_argument("--poll", type=not_negative, nargs="?", const=Fraction(0), metavar="MS",
+                        help="each reader wakes MS milliseconds (0) after a block is handed over, and takes all that is there")
     group.add_argument("--stall", type=stall, action="append", default=[], metavar="FROM:MS",
                        help="from millisecond FROM on no reader reads for MS milliseconds")
     group.add_argument("--stats", type=not_negative, default=Fraction(0), metavar="S", help="statistics every S seconds (never)")
@@ -144,7 +191,11 @@ def add_pace(parser: argparse.ArgumentParser, has_phase: bool = True) -> None:
 def pace_of(args: argparse.Namespace) -> Pace:
     if args.tick is not None and args.tick < 0:
         raise Fault("--tick: a number of milliseconds isn't negative")
-    return Pace(args.speed, args.tick, getattr(args, "phase", Fraction(0)), args.blocks, args.bytes, args.pause, tuple(args.stall), args.stats)
+    return Pace(
+        speed=args.speed, tick=args.tick, phase=getattr(args, "phase", Fraction(0)), blocks=args.blocks,
+        bytes=args.bytes, pause=args.pause, poll=args.poll, stalls=tuple(args.stall), stats=args.stats,
+        packets=args.pps, bits=args.mbps and args.mbps * 1_000_000,
+    )
 
 
 def parser_of() -> ToolParser:
@@ -154,7 +205,24 @@ def parser_of() -> ToolParser:
     parser.add_argument("-o", "--output", type=Path, metavar="FILE", help="where the schedule goes (standard output)")
     add_pace(parser)
     add_json(parser)
+    parser.add_argument("--program", metavar="PATH", help="with --poll the ringtap to run (bin/ringtap, which demo/build.sh makes)")
     return parser
+
+
+def polled(setup: Setup, pace: Pace, args: argparse.Namespace) -> str:
+    """The schedule of readers that wake when a block is handed over: when that is depends on the ring,
+    so the tools' own model works it out."""
+    from ringtap_runs import Room, program_of  # which, with the model, need what is above
+    from ringtap_search import Model
+    from ringtap_trials import ROLLOVER, Ring
+
+    mode = setup.word("mode", "cpu") + ROLLOVER * ("rollover" in setup.flags)
+    sizes = [setup.number(word) for word in ("block_size", "block_nr", "frame_size")]
+    ring = Ring(mode, setup.number("members", 1), setup.number("tov", 0), *sizes, args.replay2)
+    with Room(setup, program_of(args.program)) as room:
+        fed = feeds(room.streams(), pace)
+        reads = Model(room, fed, pace).reads(ring, pace.phase)
+    return schedule_of(fed, pace, shape_of(setup, args.replay2), reads)
 
 
 def object_of(text: str, output: Path | None) -> dict[str, object]:
@@ -170,7 +238,11 @@ def main(words: list[str]) -> int:
     args = parser_of().parse_args(words)
     setup, pace = read_setup(args.setup), pace_of(args)
     check_outputs([args.output], [], setup)
-    text = schedule_of(feeds(map(CaptureStream, setup.capture_paths()), pace.speed), pace, shape_of(setup, args.replay2))
+    if pace.poll is None:
+        fed = feeds(map(CaptureStream, setup.capture_paths()), pace)
+        text = schedule_of(fed, pace, shape_of(setup, args.replay2))
+    else:
+        text = polled(setup, pace, args)
     if args.output:
         write_text(args.output, text)
     if args.json:

@@ -77,7 +77,7 @@ class SuricataRing:
             raise Fault(f"{self.where('tpacket-v3')}: {self.name} asks for a ring of TPACKET_V2: for `replay2` take block_nr from ss")
         self.block_size, self.timeout = self.number("block-size", DEFAULT_BLOCK), self.number("block-timeout", DEFAULT_TIMEOUT)
         self.packets = self.ring_size()
-        snap = int(config.top.get("default-packet-size") or DEFAULT_PACKET)
+        snap = self.top_number("default-packet-size", DEFAULT_PACKET)
         # Its words: TPACKET_ALIGN(snaplen + TPACKET_ALIGN(TPACKET_ALIGN(tp_hdrlen) + sizeof(struct sockaddr_ll) + ETH_HLEN) - ETH_HLEN)
         self.frame_size = align(snap + align(align(HEADER) + ADDRESS + ETHERNET) - ETHERNET)
         if self.block_size < self.frame_size:
@@ -94,12 +94,19 @@ class SuricataRing:
             raise Fault(f"{self.where(word)}: `{word}` is {text}, and a number here has decimal digits alone")
         return int(text)
 
+    def top_number(self, word: str, default: int) -> int:
+        """A number at the left margin."""
+        text = self.config.top.get(word) or str(default)
+        if not (text.isascii() and text.isdigit()):
+            raise Fault(f"{self.config.path}: `{word}` is {text}, and a number here has decimal digits alone")
+        return int(text)
+
     def where(self, word: str) -> str:
         return f"{self.config.path}, line {self.interface.lines.get(word, 0)}" if word in self.interface.lines else str(self.config.path)
 
     def ring_size(self) -> int:
         """Packets of the ring of a thread; where nothing is said twice `max-pending-packets` for all threads together."""
-        pending = int(self.config.top.get("max-pending-packets") or DEFAULT_PENDING)
+        pending = self.top_number("max-pending-packets", DEFAULT_PENDING)
         if not self.word("ring-size", ""):
             return pending * 2 // self.threads
         asked = self.number("ring-size", 0)

@@ -15,6 +15,7 @@ import time
 from pathlib import Path
 
 from second.capture_bytes import header
+from second.hash_values import KEY
 from places import TOP
 from tools.here import BLOCK, Here, frame, refused
 
@@ -179,13 +180,22 @@ def test_sentences(here: Here) -> None:
     here.saved("short.pcap", bytes(10))
     here.saved("none.pcap", bytes(24))
     sentences = {
-        "cpu next.pcap": "next.pcap, byte 8: is no byte-order magic of pcapng",
-        "cpu link.pcap": (
-            "link.pcap, byte 20: has link type 113, and ringtap reads Ethernet, which is 1"
+        "cpu next.pcap": (
+            "next.pcap is pcapng whose section has no byte-order magic, "
+            "and ringtap reads pcap and pcapng"
         ),
-        "cpu short.pcap": "short.pcap: has 10 bytes, and the header of a pcap file has 24",
-        "cpu none.pcap": "none.pcap, byte 0: is neither pcap nor pcapng",
-        "cpu absent.pcap": "absent.pcap: can't be read: No such file or directory",
+        "cpu link.pcap": (
+            "link.pcap has link type 113 (Linux cooked, as of `tcpdump -i any`), "
+            "and ringtap reads Ethernet, which is 1: capture on one Ethernet device"
+        ),
+        "cpu short.pcap": "short.pcap has 10 bytes, and the header of a capture has more",
+        "cpu none.pcap": (
+            "none.pcap is nothing but zeros at its begin: a file whose disk was full, "
+            "or that was never written, and ringtap reads pcap and pcapng"
+        ),
+        "cpu absent.pcap": (
+            f"bad.txt, line 5: absent.pcap isn't there: names count from the folder {here.path}"
+        ),
         "cpu": (
             "bad.txt, line 5: `cpu` needs the name of a capture, and the number of a queue or "
             "nothing"
@@ -207,22 +217,21 @@ def test_sentences(here: Here) -> None:
         "lost.py", f"{here.path}/gone: isn't a program"
     )
     here.text("bad.txt", BLOCK + "cpu many.pcap\nblok 3\n")
-    assert here.with_program("ring_size.py", "bad.txt")[1] == (
-        "ring_size.py: bad.txt: the setup is refused (status 2): setup line 6: unknown_word\n"
-    )
+    said = here.with_program("ring_size.py", "bad.txt").said
+    assert said.startswith('ring_size.py: bad.txt, line 6: "blok 3": no such line; ')
+    assert said.endswith(" (setup line 6: unknown_word)\n")
     here.text("bad.txt", BLOCK + "cpu many.pcap\nfilter bad.ddd\n")
     here.text("bad.ddd", "1\n6 0 0 x\n")
-    assert here.with_program("ring_size.py", "bad.txt")[1] == (
-        "ring_size.py: bad.ddd: a filter, moments or a schedule is refused (status 3): filter line "
-        "2: bad_line\n"
-    )
+    said = here.with_program("ring_size.py", "bad.txt").said
+    assert said.startswith('ring_size.py: bad.ddd, line 2: "6 0 0 x": ')
+    assert said.endswith(" (filter line 2: bad_line)\n")
     here.text("bad.sched", "feed 0\nfeed 7\n")
-    assert here.with_program("lost.py", "many.txt", "bad.sched")[1] == (
-        "lost.py: bad.sched: a filter, moments or a schedule is refused (status 3): schedule line "
-        "2: no_such_cpu\n"
+    assert here.with_program("lost.py", "many.txt", "bad.sched").said == (
+        'lost.py: bad.sched, line 2: "feed 7": many.txt has one CPU, which is 0 '
+        "(schedule line 2: no_such_cpu)\n"
     )
     assert here.with_program("ring_size.py", "many.txt", "--mode", "hash")[1] == (
-        "ring_size.py: many.txt: has no line `key`, and mode hash needs one\n"
+        f'ring_size.py: many.txt: has no line "key", and mode hash needs one, as "key {KEY}"\n'
     )
     assert here.with_program("ring_size.py", "many.txt", "--block-size", "5000")[2] == 2
     here.capture("long.pcap", [(number, frame(number, 14)) for number in range(160_000)])

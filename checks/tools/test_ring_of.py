@@ -58,7 +58,7 @@ def test_ring_of(here: Here) -> None:
         assert f"mode {mode}" in ring_of(here, "--inode", inode)[0].split("\n"), mode
     said = {
         "137706": (
-            "the ring has 2122 blocks of 4096 bytes in place of 2 to 256, which ringtap has not: "
+            "the ring has 40318 slots of 208 bytes, and ringtap has no ring of as many: "
             "--fit takes the nearest one"
         ),
         "139288": "fanout group 84: has type random, which ringtap has not",
@@ -79,11 +79,14 @@ def test_ring_of(here: Here) -> None:
     assert ring_of(here)[1].split("\n")[0] == (
         "ring_of.py: more than one ring: choose by --pid, --name or --inode"
     )
-    # 4096 bytes have 19 frames of 208, so 256 blocks have 4864.
+    # 4096 bytes have 19 frames of 208, so 2122 blocks have 40,318, which is 2 * 19 * 1061: no block
+    # of at most 1 MiB has 1061 or 2122 of them, or 20,159. 65,536 bytes have 315, and 128 times 315
+    # are 40,320.
     printed = ring_of(here, "--inode", "137706", "--fit")[0].split("\n")
-    assert printed[2:] == [
+    assert printed[1:] == [
+        "# It has 40318 slots in place of 40320.",
         "# Of TPACKET_V2, slots of one frame each: run it with `ringtap replay2`.",
-        "block_size 4096", "block_nr 256", "frame_size 208", "frame_nr 4864", "cpu x.pcap", ""
+        "block_size 65536", "block_nr 128", "frame_size 208", "frame_nr 40320", "cpu x.pcap", ""
     ]
 
 

@@ -12,7 +12,8 @@ import xml.etree.ElementTree
 
 import pytest
 
-from tools.here import BLOCK, Here, frame
+from second.hash_values import KEY
+from tools.here import BLOCK, Here, frame, rows
 
 SVG = "{http://www.w3.org/2000/svg}"
 
@@ -27,8 +28,7 @@ def here(here: Here) -> Here:
 
 def rows_of(printed: str) -> list[str]:
     """The rows of the first table, between commas."""
-    lines = printed.split("\n")
-    return [",".join(line.split()) for line in lines[3 : lines.index("", 3)]]
+    return [",".join(row) for row in rows(printed)]
 
 
 def below(printed: str) -> list[str]:
@@ -98,7 +98,7 @@ def test_none_suffices(here: Here) -> None:
     )
     assert (below(printed)[:2], said, status, (here.path / "none.txt").exists()) == (
         ["every ring that was tried loses packets: no ring suffices",
-         "the fewest: 916 of 1,000, by 3 blocks of 4096 bytes, time-out 8 ms"], "", 3, False)
+         "the smallest loss: 916 of 1,000, by 3 blocks of 4096 bytes, time-out 8 ms"], "", 3, False)
 
 
 def test_phases(here: Here) -> None:
@@ -136,20 +136,19 @@ def test_captures(here: Here) -> None:
     )
     assert (printed.split("\n")[0], said, status) == (first, "", 0)
     assert rows_of(printed)[0] == "cpu,1,1000,262144,2,524288,0,3000,0,0,2,0"
-    # libpcap's packet takes 86 and 60, padded 152: 1,724 a block.
-    assert below(printed)[2] == (
-        "tcpdump -B 512   (tried with the 4 bytes that libpcap has more before each packet)"
-    )
-    # 163 frames of 1,600 bytes in a block; Suricata takes ring-size / 163, rounded down, and 1.
-    assert below(printed)[4:7] == [
-        "    block-size: 262144", "    ring-size: 325", "    block-timeout: 1000"
+    tried = "   (tried with the 4 bytes that libpcap has more before each packet)"
+    # libpcap's packet takes 86 and 60, padded 152: 1,724 a block. Where the timer runs out after
+    # 1,000 of the 3,000 frames the second block has 1,724 of them, and a third one the rest.
+    assert below(printed)[2] == "tcpdump -B 768" + tried
+    # dumpcap counts MiB, of which it takes at least one.
+    assert below(printed)[3] == "dumpcap -B 1" + tried
+    # 227 frames fill a block of 32,768. A tick, after 1,000 or 2,000 of the 3,000 frames, adds none
+    # to the 14 blocks: 908 + 92 and 9 more, or 1,816 + 184 and 5 more. Suricata counts 20 frames of
+    # 1,600 bytes for a block, and makes a block more than ring-size has.
+    assert below(printed)[4:8] == [
+        "not tried here: suricata.yaml, under af-packet, by its documentation:",
+        "    block-size: 32768", "    ring-size: 279", "    block-timeout: 10",
     ]
-    # 325 packets are fewer than the 1,024 of max-pending-packets, for which Suricata would make a
-    # ring of 1,025.
-    assert below(printed)[7] == (
-        "    max-pending-packets: 325   (at the left margin; its default, 1024, makes the ring "
-        "larger)"
-    )
     printed, _, _ = here.with_program(
         "ring_size.py", "one.pcap", "two.pcap", "--phases", "1", "--members", "2"
     )
@@ -168,7 +167,7 @@ def test_libpcap(here: Here) -> None:
     here.capture("full.pcap", [(number, frame(number)) for number in range(3600)])
     printed, _, _ = here.with_program("ring_size.py", "full.pcap", "--phases", "1", "--json")
     found = json.loads(printed)
-    assert (found["least"]["block_nr"], found["tcpdump"]) == (2, "tcpdump -B 768")
+    assert (found["least"]["block_nr"], found["tcpdump"]["command"]) == (2, "tcpdump -B 768")
     # The same where a filter cuts 200 bytes to 60.
     here.capture("wide.pcap", [(number, frame(number, 200)) for number in range(3600)])
     here.text("sixty.ddd", "1\n6 0 0 60\n")
@@ -181,7 +180,7 @@ def test_libpcap(here: Here) -> None:
         "ring_size.py", setup, "--phases", "1", "--pause", "100", "--json"
     )
     found = json.loads(printed)
-    assert (found["least"]["block_nr"], found["tcpdump"]) == (2, "tcpdump -B 768")
+    assert (found["least"]["block_nr"], found["tcpdump"]["command"]) == (2, "tcpdump -B 768")
 
 
 def test_modes(here: Here) -> None:
@@ -269,7 +268,7 @@ def test_refused(here: Here) -> None:
     said = {
         ("--stall", "1:2"): (
             "--stall: says when no reader reads, and nobody reads at all: --blocks, --bytes or "
-            "--pause gives a reader"
+            "--pause or --poll gives a reader"
         ),
         ("--phases", "0"): "--phases: a number from 1 to 1000",
         ("--jobs", "0"): "--jobs: a number from 1 on",
@@ -285,7 +284,9 @@ def test_refused(here: Here) -> None:
         ),
         ("-o", "no/least.txt"): "no/least.txt: can't be written: there is no folder no",
         ("--pictures", "wrong.txt/made"): "wrong.txt/made: can't be made: wrong.txt isn't a folder",
-        ("--mode", "hash"): "wrong.txt: has no line `key`, and mode hash needs one",
+        ("--mode", "hash"): (
+            f'wrong.txt: has no line "key", and mode hash needs one, as "key {KEY}"'
+        ),
     }
     for words, wanted in said.items():
         assert here.with_program("ring_size.py", setup, *words) == (

@@ -184,14 +184,12 @@ def test_memory(here: Here) -> None:
     ).read_bytes()
     assert told(here, None, "run.py", "replay", "enough.txt", "none.sched", "--here")[1] == alone
     assert (here.path / "out.0.pcap").read_bytes() == kept
-    for name, wanted in (("wide", both), ("less", "")):
-        given, printed = told(
-            here, None, "ring_size.py", f"{name}.txt", "--block-nr", "2", "--phases", "2"
-        )
-        assert (given, printed) == (
-            [wanted],
-            told(here, "", "ring_size.py", f"{name}.txt", "--block-nr", "2", "--phases", "2")[1]
-        ), f"ring_size.py {name}"
+    # Of the runs of ring_size.py the first one is over rings that keep all, which are too large
+    # to gain by large pages.
+    for name, wanted in (("wide", ["", both]), ("less", [""])):
+        words = ["ring_size.py", f"{name}.txt", "--block-nr", "2", "--phases", "2"]
+        given, printed = told(here, None, *words)
+        assert (given, printed) == (wanted, told(here, "", *words)[1]), f"ring_size.py {name}"
 
 
 # Lines after SETUP, the line that is wrong, and what is said of it.

@@ -168,7 +168,7 @@ def test_as_whole_schedules(part: int, here: Here) -> None:
     for case, names in enumerate(itertools.islice(captures_of(here, draw), 50)):
         setup, shape, command = setups(draw, names)
         pace = paces(draw)
-        fed = feeds(map(CaptureStream, names), pace.speed)
+        fed = feeds(map(CaptureStream, names), pace)
         full = whole(fed, pace, shape)
         if len(full) > LARGEST:
             continue
@@ -185,7 +185,6 @@ def test_a_long_silence(here: Here) -> None:
     """Frames of a year apart: a schedule as long as a silence would never end."""
     apart = made(here.path / "apart.pcap", random.Random(7), 3)
     apart.write_bytes(apart.read_bytes() + record(bytes(60), sec=40_000_000, fraction=0))
-    long = schedule_of(
-        feeds([CaptureStream(apart)], Fraction(1)), Pace(pause=Fraction(1)), Shape(1, 4096, 2, 8)
-    )
+    fed = feeds([CaptureStream(apart)], Pace())
+    long = schedule_of(fed, Pace(pause=Fraction(1)), Shape(1, 4096, 2, 8))
     assert len(long.split("\n")) <= 40
