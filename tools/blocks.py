@@ -17,7 +17,8 @@ from typing import BinaryIO, Callable, Iterator
 
 sys.path.insert(0, str(Path(__file__).resolve().parent))  # as `python3 -I` doesn't
 
-from ringtap_files import Fault, run_main
+from ringtap_files import Fault, Setup, read_setup, run_main
+from ringtap_outputs import check_outputs, write_bytes
 from ringtap_words import ToolParser, add_json
 
 TPACKET_V3 = 2  # of enum tpacket_versions
@@ -253,6 +254,48 @@ def slot_at(path: Path, file: BinaryIO, first: bytes, place: int, number: int) -
     return Block(number, place, data, [], [Packet(0, 0, parts, mac, kept)])
 
 
+# ---- as a program maps it
+
+
+def mapped(path: Path, blocks: Iterator[Block], args: argparse.Namespace) -> bytes:
+    """The ring's memory at a moment: blocks up to --at are retired, and of these the first --read have
+    been given back, so that their status is 0 while their bytes stay until the next lap."""
+    setup = read_setup(args.setup)
+    size, count = setup.number("block_size"), setup.number("block_nr")
+    image, last, back = bytearray(size * count), args.at, args.read
+    places: list[tuple[int, int]] = []  # of what the reader has: the status's place, and the number
+    for number, block in enumerate(blocks, 1):
+        if last is not None and number > last:
+            break
+        place, status = place_of(block, number, setup, size, count)
+        if len(block.data) > size:
+            raise Fault(f"{args.setup}: blocks of {size} bytes, and {title_of(block)} of {path} has {len(block.data)}")
+        image[place : place + len(block.data)] = block.data
+        places.append((place + status, number))
+    if last is not None and len(places) < last:
+        raise Fault(f"{path}: has {len(places)} blocks or slots, and --at {last} is later")
+    if back > len(places):
+        raise Fault(f"{path}: has {len(places)} blocks or slots by then, and --read {back} is more")
+    slots = count * (size // setup.number("frame_size")) if places and places[0][0] == 0 else count
+    held = len(places) - back
+    if held > slots:
+        raise Fault(f"{path}: the reader would have {held} of {slots}: --read gives more of them back")
+    for place, number in places:
+        if number <= back and not any(place == other for other, later in places[number:] if later > back):
+            image[place : place + 4] = bytes(4)
+    return bytes(image)
+
+
+def place_of(block: Block, number: int, setup: Setup, size: int, count: int) -> tuple[int, int]:
+    """Where a block or a slot is in the ring, and where its status is in it."""
+    if block.parts:
+        return (number - 1) % count * size, 8
+    frame = setup.number("frame_size")
+    inside = size // frame
+    index = (number - 1) % (inside * count)
+    return index // inside * size + index % inside * frame, 0
+
+
 # ---- as text
 
 
@@ -389,6 +432,11 @@ def parser_of() -> ToolParser:
     parser.add_argument("--only", type=int, metavar="N", help="this block (its seq_num), or slot, alone")
     parser.add_argument("--short", action="store_true", help="a line for each block and each packet")
     parser.add_argument("--data", type=int, default=16, metavar="N", help="at most N bytes of each packet's data (16)")
+    parser.add_argument("--mapped", type=Path, metavar="IMAGE",
+                        help="write the ring as a program maps it, block_nr times block_size bytes")
+    parser.add_argument("--setup", type=Path, metavar="SETUP", help="with --mapped the setup of the run, for the ring's numbers")
+    parser.add_argument("--at", type=int, metavar="N", help="with --mapped when N blocks or slots were handed over (all)")
+    parser.add_argument("--read", type=int, default=0, metavar="N", help="with --mapped when N of them were given back (0)")
     add_json(parser)
     return parser
 
@@ -397,10 +445,18 @@ def main(words: list[str]) -> int:
     args = parser_of().parse_args(words)
     if args.data < 0:
         raise Fault("--data: a number of bytes isn't negative")
+    if (args.mapped is None) != (args.setup is None):
+        raise Fault("--mapped, --setup: each needs the other")
+    if args.read < 0 or args.at is not None and args.at < 0:
+        raise Fault("--at, --read: a number isn't negative")
+    if args.mapped:
+        check_outputs([args.mapped], [args.file], read_setup(args.setup))
     try:
         with open(args.file, "rb") as file:
             blocks = blocks_of(args.file, file)
-            if args.json:
+            if args.mapped:
+                write_bytes(args.mapped, mapped(args.file, blocks, args))
+            elif args.json:
                 print_object(args.file, blocks, args.only)
             else:
                 print_text(blocks, args)

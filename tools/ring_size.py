@@ -19,7 +19,7 @@ import itertools
 import sys
 import tempfile
 from collections import Counter
-from dataclasses import dataclass
+from dataclasses import dataclass, replace
 from fractions import Fraction
 from pathlib import Path
 from typing import Callable
@@ -35,6 +35,7 @@ from ringtap_files import LARGEST_NAME, MODES, NANOSECONDS, CpuLine, Fault, Setu
 from ringtap_filters import compiled
 from ringtap_outputs import check_folder, check_outputs, write_text
 from ringtap_notes import rollover_note
+from ringtap_readers import Readings
 from ringtap_refusals import KEY, unknown_mode
 from ringtap_runs import Room, add_program, program_of, table
 from ringtap_search import FEW_PHASES, Model
@@ -350,6 +351,8 @@ def parser_of() -> argparse.ArgumentParser:
                         help=f"run the program at N phases of the timer, evenly over a time-out (all, by a model; with rollover {FEW_PHASES})")
     parser.add_argument("--keys", type=int, default=KEYS, metavar="N",
                         help=f"for mode hash so many other keys beside the setup's ({KEYS}), since a kernel's is secret")
+    parser.add_argument("--lost", type=int, metavar="N",
+                        help="which readers explain that the setup's ring lost N packets, and which ring suffices for them")
     parser.add_argument("--filter", metavar="EXPR", help="a filter, which `tcpdump -y EN10MB -ddd` compiles; with -o FILE it goes into FILE.ddd")
     parser.add_argument("--libpcap", action="store_true", help="the program reserves 4 bytes more of each packet, as all of libpcap's do")
     parser.add_argument("-o", "--output", type=Path, metavar="FILE", help="saves a setup with the least ring that suffices")
@@ -373,6 +376,8 @@ def check_words(args: argparse.Namespace, setup: Setup, pace: Pace) -> None:
         raise Fault(f"--keys: a number from 0 to {MOST_KEYS}")
     if not 1 <= args.loop <= MOST_LOOPS:
         raise Fault(f"--loop: a number from 1 to {MOST_LOOPS:,}")
+    if args.lost is not None and (args.lost < 1 or args.replay2 or is_made(setup)):
+        raise Fault("--lost: a number from 1 on, of the ring of blocks that a setup has, so give a setup")
     if pace.stalls and not pace.has_reader:
         raise Fault("--stall: says when no reader reads, and nobody reads at all: --blocks, --bytes, --pause or --poll gives a reader")
     if args.replay2 and args.tov:
@@ -563,6 +568,40 @@ def found(
     return Answer(results, least, rows, asked, fed, filtered, said, search.key_words, kernel)
 
 
+def explained(room: Room, args: argparse.Namespace, pace: Pace, setup: Setup, grid: list[Ring]) -> int:
+    """Prints the readers that explain a counter; the program runs an example of each."""
+    ring = replace(grid[0], block_nr=setup.number("block_nr"))
+    if rolls_over(ring):
+        raise Fault("--lost: not for a group that rolls over, whose members don't stand alone")
+    if not pace.has_reader:
+        pace = replace(pace, pause=PAUSE)
+    fed = feeds(room.streams(), pace)
+    refuse_parts(fed.about)
+    model = Model(room, fed, pace)
+    found = Readings(model, ring, args.lost).all()
+    said = []
+    for one in found:
+        told = one.words(ring)
+        if one.example:
+            trials = Trials(room, fed, one.example[0], 1, 1)
+            trials.reads = model.reads if one.example[0].poll is not None else None
+            drops = trials.run(ring, one.example[1]).drops
+            told += f"; `ringtap replay` drops {drops:,} by one of these, at phase {one.example[1]}"
+            if drops != args.lost:
+                raise Fault(f"{told}, and the tool's own model {args.lost:,}")
+        said.append(told)
+    if args.json:
+        print_json({"lost": args.lost, "ring": ring.block_nr, "readings": [one.object() for one in found],
+                    "blocks": max((one.blocks for one in found), default=None)})
+    else:
+        print(f"{args.lost:,} packets lost by {ring.words()} are explained, by the tool's own model, by")
+        print("\n".join(said or ["no phase, stop or speed of a reader that was tried"]))
+        if found:
+            print(f"the largest ring that any of these needs: {max(one.blocks for one in found)} blocks of {ring.block_size} bytes")
+        print(f"\n{about_words(fed.about, 0)}")
+    return 0 if found else NONE_SUFFICES
+
+
 def main(words: list[str]) -> int:
     args = parser_of().parse_args(words)
     program, setup = program_of(args.program), setup_of(args.inputs, args.replay2)
@@ -577,6 +616,8 @@ def main(words: list[str]) -> int:
             if instructions:
                 take_filter(setup, instructions, folder)
             with Room(setup, program) as room:
+                if args.lost is not None:
+                    return explained(room, args, pace, setup, grid)
                 answer = found(room, args, pace, setup, grid)
     except NoAnswer as fault:
         print(f"{Path(sys.argv[0]).name}: {fault}", file=sys.stderr)

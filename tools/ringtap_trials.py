@@ -121,7 +121,8 @@ class Trials:
         self.captures: list[str] | None = None  # other names than the room's
         self.reserved = 0  # bytes by which the frames of these are longer
         for member in range(8):
-            (room.folder / f"nowhere.{member}.pcap").symlink_to(os.devnull)
+            if not (room.folder / f"nowhere.{member}.pcap").is_symlink():
+                (room.folder / f"nowhere.{member}.pcap").symlink_to(os.devnull)
 
     def phases_of(self, ring: Ring) -> tuple[int, ...]:
         """By how many milliseconds the timer was started before the first frame."""
