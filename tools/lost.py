@@ -209,11 +209,20 @@ def save_lost(path: Path, room: Room, captures: list[Frames], members: int) -> N
             writer.write(packet)
 
 
+def round_width(least: int) -> int:
+    """1, 2, 2.5 or 5 times a power of ten nanoseconds, and no less than a number."""
+    power = 1
+    while 10 * power <= least:
+        power *= 10
+    steps = (power, 2 * power, 5 * power // 2, 5 * power, 10 * power)
+    return next(width for width in steps if width >= max(least, 1))
+
+
 def bins_of(captures: list[Frames], first: int, count: int) -> list[Bin]:
     """Kept and lost, by time."""
     last = max((max(frames.times) for frames in captures if frames.times), default=first)
-    width = max(1, -(-(last - first + 1) // count))
-    bins = [Bin(at * width) for at in range(count)]
+    width = round_width(-(-(last - first + 1) // count))
+    bins = [Bin(at * width) for at in range((last - first) // width + 1)]
     for frames in captures:
         for time, fate in zip(frames.times, frames.fates):
             if fate:
@@ -305,7 +314,7 @@ def parser_of() -> ToolParser:
     parser.add_argument("--ranges", type=int, default=40, metavar="N", help="at most N ranges, those that lost most (40); 0 all")
     parser.add_argument("--flows", type=int, default=10, metavar="N", help="at most N flows, those that lost most (10); 0 all")
     parser.add_argument("--save", type=Path, metavar="FILE", help="save what was lost as a pcap file")
-    parser.add_argument("--bins", type=int, metavar="N", help="print kept and lost in N stretches of time (20 with --picture)")
+    parser.add_argument("--bins", type=int, metavar="N", help="print kept and lost in at most N stretches of time of round length (20 with --picture)")
     parser.add_argument("--picture", type=Path, metavar="FILE", help="draw them, as SVG, or as PNG where rsvg-convert is there")
     add_json(parser)
     add_program(parser)

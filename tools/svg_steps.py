@@ -43,20 +43,23 @@ def seconds(time: float) -> str:
     return f"{time / NANOSECONDS:.9f}".rstrip("0").rstrip(".")
 
 
-def steps_chart(title: str, subtitle: str, x_label: str, end: int, panels: list[Panel]) -> str:
-    """The panels below one another, over one axis of time."""
+def steps_chart(
+    title: str, subtitle: str, x_label: str, end: int, panels: list[Panel], start: int = 0
+) -> str:
+    """The panels below one another, over one axis of time, which may begin later than the run."""
     height = TOP + len(panels) * (PANEL + GAP) - GAP + BOTTOM
-    end = max(end, 1)
+    end = max(end, start + 1)
 
     def place(time: int) -> float:
-        return LEFT + (WIDTH - LEFT - RIGHT) * time / end
+        within = min(max(time, start), end)
+        return LEFT + (WIDTH - LEFT - RIGHT) * (within - start) / (end - start)
 
     parts = [text(LEFT, 26, title, "start", 16, ' font-weight="bold"'), text(WIDTH / 2, height - 12, x_label)]
-    parts += [text(LEFT, 46, f"{subtitle}; dashed: all blocks of the ring; red: frozen", "start")]
+    parts += [text(LEFT, 46, f"{subtitle}; dashed: all blocks of the ring; orange: frozen", "start")]
     for at, panel in enumerate(panels):
         parts += panel_parts(panel, TOP + at * (PANEL + GAP), place, end)
-    step = round_step(end)
-    for time in range(0, end + 1, step):
+    step = round_step(end - start)
+    for time in range(-(-start // step) * step, end + 1, step):
         parts.append(text(place(time), height - BOTTOM + 18, seconds(time), size=11))
     body = "\n".join(parts)
     return (
@@ -86,6 +89,8 @@ def panel_parts(panel: Panel, top: float, place, end: int) -> list[str]:
         parts += [line(LEFT, y(blocks), WIDTH - RIGHT, y(blocks), GRID), text(LEFT - 8, y(blocks) + 4, str(blocks), "end", 11)]
     parts.append(area_of(panel, place, y, end))
     for one in panel.frozen:
+        if place(one.stop) == LEFT or one.start > end:
+            continue
         width = max(place(one.stop) - place(one.start), 1.5)
         told = f"{panel.name}: frozen from {seconds(one.start)} to {seconds(one.stop)} s, {one.drops:,} dropped"
         parts.append(f'<rect x="{place(one.start):.1f}" y="{top:.1f}" width="{width:.1f}" height="{PANEL}" fill="{FULL}" fill-opacity="0.5">'
@@ -97,7 +102,7 @@ def panel_parts(panel: Panel, top: float, place, end: int) -> list[str]:
 
 def area_of(panel: Panel, place, y, end: int) -> str:
     """The steps as an area with a line on it."""
-    points, has = [(place(0), y(0))], 0
+    points, has = [(LEFT, y(0))], 0
     for time, blocks in panel.steps:
         points += [(place(time), y(has)), (place(time), y(blocks))]
         has = blocks

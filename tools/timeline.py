@@ -248,6 +248,7 @@ class Run:
         self.mode, self.is_rolling = setup.word("mode", "cpu"), "rollover" in setup.flags or setup.word("mode") == "rollover"
         self.fed, self.present, self.ticket = [0] * len(captures), [0] * len(captures), 0
         self.first = first_time(captures)
+        self.start = self.stop = 0  # of what is told, nanoseconds from the first frame on
 
     def move_clock(self, time: int) -> None:
         self.story.now = max(self.story.now, time)
@@ -377,11 +378,17 @@ def object_of(run: Run) -> dict[str, object]:
     return {"events": events, "members": members}
 
 
+def cut_out(run: Run, start: int, stop: int | None) -> None:
+    """Leaves what happened in a stretch of time; sums stay those of the whole."""
+    run.start, run.stop = start, run.story.now if stop is None else min(stop, run.story.now)
+    run.story.events = [one for one in run.story.events if run.start <= one.time <= run.stop]
+
+
 def picture_of(run: Run, path: Path) -> str:
-    end = run.story.now
+    end = run.stop
     panels = [Panel(f"member {at}", ring.count, ring.most.has, ring.steps, ring.frozen) for at, ring in enumerate(run.rings)]
     subtitle = f"{', '.join(one.name for one in run.setup.capture_paths())}; {run.setup.path.name} by {path.name}"
-    return steps_chart("Blocks that the reader has, by time", subtitle, "seconds from the first frame on", end, panels)
+    return steps_chart("Blocks that the reader has, by time", subtitle, "seconds from the first frame on", end, panels, run.start)
 
 
 def parser_of() -> ToolParser:
@@ -389,6 +396,8 @@ def parser_of() -> ToolParser:
     parser.add_argument("setup", type=Path, metavar="SETUP", help="the setup")
     parser.add_argument("schedule", type=Path, metavar="SCHEDULE", help="a file, a pipe, or `-`")
     parser.add_argument("--first", type=int, choices=(0, 1), default=0, help="the number of a capture's first frame (0)")
+    parser.add_argument("--from", dest="start", type=float, default=0.0, metavar="S", help="tell and draw from this second on (0)")
+    parser.add_argument("--to", dest="stop", type=float, metavar="S", help="and up to this one (the end)")
     parser.add_argument("--picture", type=Path, metavar="FILE", help="draw it, as SVG, or as PNG where rsvg-convert is there")
     add_json(parser)
     add_program(parser)
@@ -400,6 +409,8 @@ def main(words: list[str]) -> int:
     program, setup = program_of(args.program), read_setup(args.setup)
     if args.picture:
         check_picture(args.picture)
+    if args.start < 0 or args.stop is not None and args.stop <= args.start:
+        raise Fault("--from, --to: seconds from 0 on, and the second number is the larger one")
     check_outputs([args.picture], [args.schedule], setup)
     with Room(setup, program) as room:
         name = room.text("schedule", args.schedule)
@@ -410,6 +421,7 @@ def main(words: list[str]) -> int:
         run = Run(setup, captures, offers, arrived_of(room, captures, setup))
         run.all(steps_of(room.folder / name))
     compare(run, report)
+    cut_out(run, int(args.start * NANOSECONDS), None if args.stop is None else int(args.stop * NANOSECONDS))
     if args.json:
         print_json(object_of(run))
     else:

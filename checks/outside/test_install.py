@@ -19,7 +19,9 @@ from places import PROGRAMS, TOP
 
 TOOLS = [
     f"ringtap-{name}"
-    for name in ("blocks", "busiest", "lost", "ring-of", "run", "schedule", "size", "timeline")
+    for name in (
+        "blocks", "busiest", "lost", "report", "ring-of", "run", "schedule", "size", "timeline"
+    )
 ]
 PAGES = ["ringtap", *TOOLS]
 

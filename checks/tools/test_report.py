@@ -1,0 +1,67 @@
+"""report.py: one page whose numbers are those of the tools' JSON, without a browser."""
+from __future__ import annotations
+
+import json
+import re
+from html.parser import HTMLParser
+
+from tools.here import BLOCK, Here, frame
+
+
+class Page(HTMLParser):
+    """The cells of each table, and what the page names elsewhere."""
+
+    def __init__(self) -> None:
+        super().__init__()
+        self.tables: list[list[list[str]]] = []
+        self.outside: list[str] = []
+        self.is_cell = False
+
+    def handle_starttag(self, tag: str, attributes: list[tuple[str, str | None]]) -> None:
+        found = dict(attributes)
+        self.outside += [str(found[name]) for name in ("src", "href") if name in found]
+        if tag == "table":
+            self.tables.append([])
+        elif tag == "tr":
+            self.tables[-1].append([])
+        elif tag in ("td", "th"):
+            self.is_cell = True
+            self.tables[-1][-1].append("")
+
+    def handle_endtag(self, tag: str) -> None:
+        if tag in ("td", "th"):
+            self.is_cell = False
+
+    def handle_data(self, data: str) -> None:
+        if self.is_cell:
+            self.tables[-1][-1][-1] += data
+
+
+def test_page(here: Here) -> None:
+    """112 frames, one each ms, over two blocks of 28 that nobody reads; the timer runs out each
+    56 ms."""
+    here.capture("a<b.pcap", [(1000 * number + 500, frame(number)) for number in range(112)])
+    here.text("steady.txt", BLOCK + "tov 56\ncpu a<b.pcap\n")
+    answer = here.with_program("report.py", "steady.txt", "-o", "page.html")
+    assert (answer.printed, answer.said, answer.status) == ("saved: page.html\n", "", 0)
+    text = (here.path / "page.html").read_text()
+    page = Page()
+    page.feed(text)
+    assert page.outside == []  # it needs nothing from elsewhere
+    assert "<b.pcap" not in re.sub(r"<script.*?</script>", "", text, flags=re.S)
+    captures, sizes, members, flows = page.tables
+    found = json.loads(here.with_program("ring_size.py", "steady.txt", "--json").printed)
+    wanted = [
+        [ring["block_nr"], ring["memory"], ring["fewest"], ring["drops"], ring["phase"]]
+        for ring in found["rings"]
+    ]
+    assert [[int(cell.replace(",", "")) for cell in row] for row in sizes[1:]] == wanted
+    assert captures[1][:3] == ["a<b.pcap", "112", "0.111"]
+    # At the worst phase two blocks keep 29 of them, and all frames are of one flow.
+    assert members[1][:3] == ["0", "29", "83"]
+    assert flows[1] == ["type 0x88b5", "29", "83", "4,980"]
+    kept = re.search(r'id="numbers">(.*?)</script>', text, re.S)
+    assert kept is not None
+    numbers = json.loads(kept[1].replace("<\\/", "</"))
+    assert numbers["sizes"]["rings"] == found["rings"]
+    assert "<b>5 blocks of 4,096 bytes</b>" in text
