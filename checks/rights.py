@@ -48,6 +48,14 @@ def other_user() -> bool:
     return os.getuid() != 0 or works(["setpriv", "--reuid=65534", "--clear-groups", "true"])
 
 
+def network_namespace() -> bool:
+    """Whether root can make one with a name."""
+    name = f"ringtap-check-{os.getpid()}"
+    if os.getuid() != 0 or not works(["ip", "netns", "add", name]):
+        return False
+    return works(["ip", "netns", "delete", name])
+
+
 def chroot() -> bool:
     words = [] if os.getuid() == 0 else ["unshare", "--map-root-user"]
     return works([*words, "chroot", "/", "true"])
@@ -57,6 +65,7 @@ RIGHTS: dict[str, Callable[[], bool]] = {
     "raw sockets": raw_socket,
     "packet sockets": packet_socket,
     "mounts": small_mount,
+    "network namespaces": network_namespace,
     "another user": other_user,
     "a chroot": chroot,
 }

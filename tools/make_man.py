@@ -23,6 +23,7 @@ from ringtap_words import DATE, VERSION, ToolParser, add_json
 PAGE, COMPLETION = TOP / "docs" / "ringtap.1", TOP / "tools" / "ringtap.bash"
 # The tools that are installed: their files, and the names that they have there.
 TOOLS = {
+    "beside": "ringtap-beside",
     "blocks": "ringtap-blocks", "busiest": "ringtap-busiest", "lost": "ringtap-lost", "report": "ringtap-report", "ring_of": "ringtap-ring-of", "ring_size": "ringtap-size",
     "run": "ringtap-run", "schedule": "ringtap-schedule", "timeline": "ringtap-timeline",
 }
@@ -172,6 +173,7 @@ def option_lines(parser: ToolParser, action: argparse.Action) -> list[str]:
 
 
 STATUSES = {
+    "ringtap-beside": "0 where both numbers are there, 77 where this machine can't run it, 1 where something went wrong, 2 where the words are wrong.",
     "ringtap-run": "That of \\fBringtap\\fR; 125 where the tool itself refuses, before anything is run.",
     "ringtap-size": "0 where a ring suffices, 3 where none does, 4 where the captures give no answer, 1 where an input is wrong, 2 where the words are.",
 }

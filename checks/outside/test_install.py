@@ -20,7 +20,8 @@ from places import PROGRAMS, TOP
 TOOLS = [
     f"ringtap-{name}"
     for name in (
-        "blocks", "busiest", "lost", "report", "ring-of", "run", "schedule", "size", "timeline"
+        "beside", "blocks", "busiest", "lost", "report", "ring-of", "run", "schedule", "size",
+        "timeline",
     )
 ]
 PAGES = ["ringtap", *TOOLS]

@@ -1,0 +1,26 @@
+"""beside.py with a real tcpdump, where root may make a network namespace and the programs are
+there."""
+from __future__ import annotations
+
+import json
+
+import pytest
+
+from tools.here import Here, frame
+
+
+@pytest.mark.needs("network namespaces", "ip", "ss", "tcpreplay", "tcpdump")
+def test_tcpdump(here: Here) -> None:
+    """200 frames of 20,000 bytes, one each 10 ms, over 2 blocks of 13: with libpcap's 4 bytes
+    more each takes 20,088 of 262,096. A stop of a second loses 100 less some 26 of them.
+    tcpdump's own number is in the predicted range, except where the machine has so much other
+    work that frames come late."""
+    here.capture("sent.pcap", [(10_000 * number, frame(number, 20_000)) for number in range(200)])
+    command = ["tcpdump", "-i", "{}", "-B", "512", "-Z", "root", "-w", "/dev/null"]
+    words = ["sent.pcap", "--stop", "200:1000", "--json", "--program", here.program]
+    answer = here.tool("beside.py", *words, "--", *command)
+    assert (answer.said, answer.status) == ("", 0)
+    found = json.loads(answer.printed)
+    assert (found["block_nr"], found["block_size"], found["tov"]) == (2, 262_144, 1000)
+    assert 50 < found["fewest"] <= found["most"] < 100
+    assert found["is_within"] or found["is_late"]
