@@ -161,14 +161,18 @@ def points_chart(title: str, subtitle: str, x_label: str, y_label: str, panels: 
     room = legend_width([series.name for panel in panels for series in panel.series])
     columns, top = (1, TOP) if is_one else (PANEL_COLUMNS, TOP + 16)
     parts: list[str] = []
+    # Panels with the same series share one legend, at the right of the first row.
+    is_shared = len({tuple(series.name for series in panel.series) for panel in panels}) == 1
+    between = EDGE if is_shared and not is_one else room
+    shows = min(columns, len(panels)) - 1
     for at, panel in enumerate(panels):
         row, column = divmod(at, columns)
-        axes = axes_at(LEFT + column * (width + room + LEFT - EDGE), top + row * (height + BOTTOM), width, height, highest)
+        axes = axes_at(LEFT + column * (width + between + LEFT - EDGE), top + row * (height + BOTTOM), width, height, highest)
         if panel.name:
             axes.text(axes.left, axes.top - 8, panel.name, "start", size=13, weight="bold")
-        draw_points(axes, panel, low, max(high, low + 1))
+        draw_points(axes, panel, low, max(high, low + 1), not is_shared or at == shows)
         parts += axes.parts
-    right = LEFT + (min(columns, len(panels)) - 1) * (width + room + LEFT - EDGE) + width
+    right = LEFT + (min(columns, len(panels)) - 1) * (width + between + LEFT - EDGE) + width
     base = top + (-(-len(panels) // columns) - 1) * (height + BOTTOM) + height
     words = Axes(0, 0, 0, 0, 1, [])
     headings(words, right, base, title, subtitle, x_label, y_label)
@@ -176,7 +180,7 @@ def points_chart(title: str, subtitle: str, x_label: str, y_label: str, panels: 
     return finish(max(right + room, LEFT + widest + EDGE), base + BOTTOM, parts + words.parts)
 
 
-def draw_points(axes: Axes, panel: Panel, low: int, high: int) -> None:
+def draw_points(axes: Axes, panel: Panel, low: int, high: int, has_legend: bool = True) -> None:
     """The series of a panel over 2^low to 2^high bytes."""
 
     def place(x: float) -> float:
@@ -194,7 +198,8 @@ def draw_points(axes: Axes, panel: Panel, low: int, high: int) -> None:
             axes.line(place(x1), axes.y(y1), place(x2), axes.y(y2), color, 1.5, dashes)
         for x, y, told in ordered:
             axes.circle(place(x), axes.y(y), 4, "white" if y == 0 else color, color, told)
-        axes.legend(row, series.name, f'<circle r="4" fill="{color}"/>')
+        if has_legend:
+            axes.legend(row, series.name, f'<circle r="4" fill="{color}"/>')
     if panel.mark:
         x, y, words = panel.mark
         axes.circle(place(x), axes.y(y), 9, "none", INK)

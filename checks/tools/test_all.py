@@ -264,16 +264,16 @@ def examples(document: Path) -> list[tuple[list[str], str]]:
 def test_examples(here: Here) -> None:
     """The commands of docs/tools.md print what is shown below them; of a schedule, a timeline
     and a dump the first lines."""
-    here = here.path / "examples"
-    here.mkdir()
-    (here / "demo").symlink_to(TOP / "demo")
-    (here / "checks").symlink_to(TOP / "checks")
-    (here / "examples").symlink_to(TOP / "examples")
-    (here / "in.0.pcap").write_bytes((TOP / "demo" / "lo.pcap").read_bytes())
-    (here / "clash.txt").write_text(BLOCK + "cpu in.0.pcap\nout in\n")
-    (here / "cluster.txt").write_text(BLOCK + "cpu in.0.pcap\nmode cluster_flow\n")
-    (here / "packed.txt").write_text(BLOCK + "cpu lo.pcap.gz\n")
-    (here / "lo.pcap.gz").write_bytes(gzip.compress((TOP / "demo" / "lo.pcap").read_bytes()))
+    folder = here.path / "examples"
+    folder.mkdir()
+    (folder / "demo").symlink_to(TOP / "demo")
+    (folder / "checks").symlink_to(TOP / "checks")
+    (folder / "examples").symlink_to(TOP / "examples")
+    (folder / "in.0.pcap").write_bytes((TOP / "demo" / "lo.pcap").read_bytes())
+    (folder / "clash.txt").write_text(BLOCK + "cpu in.0.pcap\nout in\n")
+    (folder / "cluster.txt").write_text(BLOCK + "cpu in.0.pcap\nmode cluster_flow\n")
+    (folder / "packed.txt").write_text(BLOCK + "cpu lo.pcap.gz\n")
+    (folder / "lo.pcap.gz").write_bytes(gzip.compress((TOP / "demo" / "lo.pcap").read_bytes()))
     for shown, wanted in examples(TOP / "docs" / "tools.md"):
         what, words = " ".join(shown), list[str | Path](shown)
         if shown[0] == "python3":
@@ -284,7 +284,7 @@ def test_examples(here: Here) -> None:
                 sys.executable, "-B", TOP / shown[1], *shown[2:],
                 *["--program", here.program] * has_program
             ]
-        printed, said, status = here.answer(words, here)
+        printed, said, status = here.answer(words, folder)
         given = (printed + said).rstrip("\n") if isinstance(status, int) else status
         if any(tool in what for tool in ("schedule.py", "timeline.py", "blocks.py")):
             given = "\n".join(given.split("\n")[: wanted.count("\n") + 1])
