@@ -1,12 +1,15 @@
 #!/usr/bin/env python3
-"""Runs a capture program of yours on a real ring, stops it for a while, and compares its drop counter with what is predicted.
+"""Runs a capture program of yours on a real ring, stops it for a while, and compares its drop
+counter with what is predicted.
 
-In a network namespace of its own a pair of virtual Ethernet devices is made; the command runs on one of them ({} in it is the device's name),
-tcpreplay sends the capture on the other. The ring is the one that ss shows of the program. It is stopped by SIGSTOP, goes on by SIGCONT, and ends by
-SIGINT; then its own statistics are read. The prediction is the range of losses of ring_size.py over all phases of the timer, for a reader that wakes
-when a block is handed over.
+In a network namespace of its own a pair of virtual Ethernet devices is made; the command runs on
+one of them ({} in it is the device's name), tcpreplay sends the capture on the other. The ring is
+the one that ss shows of the program. It is stopped by SIGSTOP, goes on by SIGCONT, and ends by
+SIGINT; then its own statistics are read. The prediction is the range of losses of ring_size.py over
+all phases of the timer, for a reader that wakes when a block is handed over.
 
-It needs Linux, root, ip and ss of iproute2, and tcpreplay. Where one is missing it says so, and the status is 77.
+It needs Linux, root, ip and ss of iproute2, and tcpreplay. Where one is missing it says so, and
+the status is 77.
 """
 from __future__ import annotations
 
@@ -34,7 +37,11 @@ from schedule import positive, stall
 HERE = Path(__file__).resolve().parent
 SKIPPED = 77  # the status of a check that can't run here
 SENDER, TAKER = "rt0", "rt1"
-LARGEST_MTU, PATIENCE, REST = 65_535, 10.0, 1.5  # of the devices; seconds until a ring is there, and to the end
+LARGEST_MTU, PATIENCE, REST = (
+    65_535,
+    10.0,
+    1.5,
+)  # of the devices; seconds until a ring is there, and to the end
 LATE = 1.05  # times as long as was asked for is too slow
 COUNTERS = (  # what tcpdump, dumpcap and netsniff-ng print when they end
     r"(\d+) packets? dropped by kernel",
@@ -67,7 +74,9 @@ def lacking() -> str | None:
 def call(*words: str) -> str:
     done = subprocess.run(words, capture_output=True, text=True, errors="replace")
     if done.returncode:
-        raise Fault(f"`{' '.join(words)}` ended with status {done.returncode}: {done.stderr.strip()}")
+        raise Fault(
+            f"`{' '.join(words)}` ended with status {done.returncode}: {done.stderr.strip()}"
+        )
     return done.stdout
 
 
@@ -80,7 +89,9 @@ class Namespace:
     def __enter__(self) -> Namespace:
         call("ip", "netns", "add", self.name)
         try:
-            call("ip", "-n", self.name, "link", "add", SENDER, "type", "veth", "peer", "name", TAKER)
+            call(
+                "ip", "-n", self.name, "link", "add", SENDER, "type", "veth", "peer", "name", TAKER
+            )
             self.run("sysctl", "-q", "-w", "net.ipv6.conf.all.disable_ipv6=1")
             for device in (SENDER, TAKER):
                 call("ip", "-n", self.name, "link", "set", device, "mtu", str(LARGEST_MTU), "up")
@@ -99,7 +110,9 @@ class Namespace:
         return call(*self.words(*words))
 
 
-def ring_in(space: Namespace, program: subprocess.Popen, capture: Path) -> tuple[str, tuple[str, ...]]:
+def ring_in(
+    space: Namespace, program: subprocess.Popen, capture: Path
+) -> tuple[str, tuple[str, ...]]:
     """The setup of the ring that the program has made, once it is there."""
     until = time.monotonic() + PATIENCE
     while time.monotonic() < until and program.poll() is None:
@@ -109,17 +122,27 @@ def ring_in(space: Namespace, program: subprocess.Popen, capture: Path) -> tuple
             name = "filter.ddd" if group[0].filter else None
             return setup_of(group, ["capture.pcap"], name, False), group[0].filter
         time.sleep(0.05)
-    raise Fault("the program ended before it had a ring" if program.poll() is not None else f"the program has no ring after {PATIENCE:g} s")
+    raise Fault(
+        "the program ended before it had a ring"
+        if program.poll() is not None
+        else f"the program has no ring after {PATIENCE:g} s"
+    )
 
 
 def replayed(space: Namespace, args: argparse.Namespace, words: list[str], log: Path) -> Seen:
     """Starts the program, sends the capture, stops and ends the program."""
     with open(log, "wb") as output:
-        program = subprocess.Popen(space.words(*words), stdout=output, stderr=output, stdin=subprocess.DEVNULL)
+        program = subprocess.Popen(
+            space.words(*words), stdout=output, stderr=output, stdin=subprocess.DEVNULL
+        )
         try:
             setup, instructions = ring_in(space, program, args.capture)
-            sender = subprocess.Popen(space.words("tcpreplay", "-q", "-i", SENDER, *rate_words(args), str(args.capture)),
-                                      stdout=subprocess.DEVNULL, stderr=subprocess.PIPE, text=True)
+            sender = subprocess.Popen(
+                space.words("tcpreplay", "-q", "-i", SENDER, *rate_words(args), str(args.capture)),
+                stdout=subprocess.DEVNULL,
+                stderr=subprocess.PIPE,
+                text=True,
+            )
             begin = first_frame(program.pid, sender)
             for start, length in sorted(args.stop):
                 time.sleep(max(0.0, begin + float(start) / 1000 - time.monotonic()))
@@ -166,7 +189,9 @@ def counter_in(text: str, pattern: str | None) -> int:
         if found:
             return int(found[-1])
     shown = text.strip().splitlines()[-3:]
-    raise Fault(f"no drop counter in what the program printed: --counter gives its pattern; the last lines: {shown}")
+    raise Fault(
+        f"no drop counter in what the program printed: --counter gives its pattern; the last lines: {shown}"
+    )
 
 
 def predicted(args: argparse.Namespace, seen: Seen, folder: Path, program: Path) -> dict:
@@ -174,8 +199,12 @@ def predicted(args: argparse.Namespace, seen: Seen, folder: Path, program: Path)
     (folder / "capture.pcap").symlink_to(args.capture.resolve())
     (folder / "setup.txt").write_text(seen.setup)
     if seen.instructions:
-        (folder / "filter.ddd").write_text("\n".join([str(len(seen.instructions)), *seen.instructions]) + "\n")
-    blocks = next(line.split()[1] for line in seen.setup.splitlines() if line.startswith("block_nr "))
+        (folder / "filter.ddd").write_text(
+            "\n".join([str(len(seen.instructions)), *seen.instructions]) + "\n"
+        )
+    blocks = next(
+        line.split()[1] for line in seen.setup.splitlines() if line.startswith("block_nr ")
+    )
     words = ["setup.txt", "--block-nr", blocks, "--poll", "0", "--json", "--program", str(program)]
     for start, length in args.stop:
         words += ["--stall", f"{start}:{length}"]
@@ -187,7 +216,9 @@ def predicted(args: argparse.Namespace, seen: Seen, folder: Path, program: Path)
     if done.returncode not in (0, 3):
         raise Fault(f"ring_size.py: {done.stderr.strip()}")
     found = json.loads(done.stdout)
-    return next(ring for ring in found["rings"] if ring["block_nr"] == int(blocks)) | {"about": found["about"]}
+    return next(ring for ring in found["rings"] if ring["block_nr"] == int(blocks)) | {
+        "about": found["about"]
+    }
 
 
 def seconds_asked(args: argparse.Namespace, about: dict) -> float:
@@ -201,16 +232,41 @@ def seconds_asked(args: argparse.Namespace, about: dict) -> float:
 
 
 def parser_of() -> ToolParser:
-    parser = ToolParser(__doc__, "demo/lo.pcap --stop 100:500 -- tcpdump -i {} -Z root -w /dev/null")
+    parser = ToolParser(
+        __doc__, "demo/lo.pcap --stop 100:500 -- tcpdump -i {} -Z root -w /dev/null"
+    )
     parser.add_argument("capture", type=Path, metavar="CAPTURE", help="what is sent")
-    parser.add_argument("command", nargs="+", metavar="COMMAND", help="the program and its words, after `--`; {} is the device")
-    parser.add_argument("--stop", type=stall, action="append", default=[], metavar="FROM:MS",
-                        help="stop it from millisecond FROM on for MS milliseconds; may be given several times")
+    parser.add_argument(
+        "command",
+        nargs="+",
+        metavar="COMMAND",
+        help="the program and its words, after `--`; {} is the device",
+    )
+    parser.add_argument(
+        "--stop",
+        type=stall,
+        action="append",
+        default=[],
+        metavar="FROM:MS",
+        help="stop it from millisecond FROM on for MS milliseconds; may be given several times",
+    )
     rate = parser.add_mutually_exclusive_group()
-    rate.add_argument("--speed", type=positive, default=positive("1"), metavar="X", help="frames are sent X times as fast (1)")
+    rate.add_argument(
+        "--speed",
+        type=positive,
+        default=positive("1"),
+        metavar="X",
+        help="frames are sent X times as fast (1)",
+    )
     rate.add_argument("--pps", type=positive, metavar="N", help="N frames are sent a second")
-    rate.add_argument("--mbps", type=positive, metavar="N", help="N million bits of frames are sent a second")
-    parser.add_argument("--counter", metavar="PATTERN", help="a regular expression whose group is the drop counter in what it prints")
+    rate.add_argument(
+        "--mbps", type=positive, metavar="N", help="N million bits of frames are sent a second"
+    )
+    parser.add_argument(
+        "--counter",
+        metavar="PATTERN",
+        help="a regular expression whose group is the drop counter in what it prints",
+    )
     add_json(parser)
     add_program(parser)
     return parser
@@ -233,16 +289,33 @@ def main(words: list[str]) -> int:
     is_late = seen.seconds > LATE * asked + 0.2
     is_within = ring["fewest"] <= seen.drops <= ring["drops"]
     if args.json:
-        print_json({"dropped": seen.drops, "fewest": ring["fewest"], "most": ring["drops"], "is_within": is_within, "is_late": is_late,
-                    "seconds": round(seen.seconds, 3), "seconds_asked": round(asked, 3),
-                    "block_nr": ring["block_nr"], "block_size": ring["block_size"], "tov": ring["tov"]})
+        print_json(
+            {
+                "dropped": seen.drops,
+                "fewest": ring["fewest"],
+                "most": ring["drops"],
+                "is_within": is_within,
+                "is_late": is_late,
+                "seconds": round(seen.seconds, 3),
+                "seconds_asked": round(asked, 3),
+                "block_nr": ring["block_nr"],
+                "block_size": ring["block_size"],
+                "tov": ring["tov"],
+            }
+        )
     else:
-        print(f"its ring: {ring['block_nr']} blocks of {ring['block_size']} bytes, time-out {ring['tov']} ms, as ss shows it")
+        print(
+            f"its ring: {ring['block_nr']} blocks of {ring['block_size']} bytes, time-out {ring['tov']} ms, as ss shows it"
+        )
         print(f"it says: {seen.drops:,} dropped")
         if is_late:
-            print(f"frames took {seen.seconds:.1f} s in place of {asked:.1f} s: this machine is too busy for the rate, and the numbers can't be compared")
+            print(
+                f"frames took {seen.seconds:.1f} s in place of {asked:.1f} s: this machine is too busy for the rate, and the numbers can't be compared"
+            )
         where = "within" if is_within else "not within"
-        print(f"predicted: {ring['fewest']:,} to {ring['drops']:,}, over all phases of the timer; its number is {where}")
+        print(
+            f"predicted: {ring['fewest']:,} to {ring['drops']:,}, over all phases of the timer; its number is {where}"
+        )
     return 0
 
 

@@ -1,8 +1,10 @@
 #!/usr/bin/env python3
-"""Makes one page of a capture or a setup that any browser opens: what the captures are, which ring never freezes, how full a ring gets, and what smaller ones lose.
+"""Makes one page of a capture or a setup that any browser opens: what the captures are, which ring
+never freezes, how full a ring gets, and what smaller ones lose.
 
-The page is one file and needs no network. Its numbers are those that ring_size.py, timeline.py and lost.py print as JSON, and stand in it
-once more as JSON. Of a setup its own ring is shown over time, of captures the largest ring that is too small, at the phase of the timer at which it
+The page is one file and needs no network. Its numbers are those that ring_size.py, timeline.py
+and lost.py print as JSON, and stand in it once more as JSON. Of a setup its own ring is shown
+over time, of captures the largest ring that is too small, at the phase of the timer at which it
 loses most. Tables are sorted by a click on a head.
 """
 from __future__ import annotations
@@ -63,10 +65,14 @@ class Work:
 
     def run(self, name: str, *words: str, statuses: tuple[int, ...] = (0,)) -> str:
         command = [sys.executable, "-B", str(HERE / name), *words]
-        done = subprocess.run(command, cwd=self.room.folder, capture_output=True, text=True, errors="replace")
+        done = subprocess.run(
+            command, cwd=self.room.folder, capture_output=True, text=True, errors="replace"
+        )
         self.progress.step()
         if done.returncode not in statuses:
-            raise Fault(f"{name}: {done.stderr.strip() or done.stdout.strip() or 'it ended without a word'}")
+            raise Fault(
+                f"{name}: {done.stderr.strip() or done.stdout.strip() or 'it ended without a word'}"
+            )
         return done.stdout
 
     def object(self, name: str, *words: str, statuses: tuple[int, ...] = (0,)) -> dict:
@@ -92,7 +98,9 @@ def reader_options(args: argparse.Namespace, setup: Setup) -> list[str]:
         words += ["--tick", str(args.tick)]
     for start, length in args.stall:
         words += ["--stall", f"{start}:{length}"]
-    if is_made(setup) and not any(getattr(args, name) is not None for name in ("blocks", "bytes", "pause", "poll")):
+    if is_made(setup) and not any(
+        getattr(args, name) is not None for name in ("blocks", "bytes", "pause", "poll")
+    ):
         words += ["--pause", DEFAULT_PAUSE]
     return words
 
@@ -114,17 +122,31 @@ def gathered(work: Work, setup: Setup) -> dict:
     (room.folder / "pictures").mkdir()
     sizes = ["ring_size.py", "setup.txt", "--pictures", "pictures", *work.words]
     found = work.object(*sizes, statuses=(0, NONE_SUFFICES))
-    if not is_made(setup) and setup.number("block_nr") not in [ring["block_nr"] for ring in found["rings"]]:
-        own = work.object("ring_size.py", "setup.txt", "--block-nr", setup.word("block_nr") or "2", *work.words, statuses=(0, NONE_SUFFICES))
+    if not is_made(setup) and setup.number("block_nr") not in [
+        ring["block_nr"] for ring in found["rings"]
+    ]:
+        own = work.object(
+            "ring_size.py",
+            "setup.txt",
+            "--block-nr",
+            setup.word("block_nr") or "2",
+            *work.words,
+            statuses=(0, NONE_SUFFICES),
+        )
         found["rings"] = sorted(found["rings"] + own["rings"], key=lambda ring: ring["block_nr"])
     ring = chosen_ring(found, setup)
     count = ring["block_size"] // max(1, setup.number("frame_size")) * ring["block_nr"]
-    room.write_setup("shown.txt", {"block_nr": str(ring["block_nr"]), "frame_nr": str(count), "out": "shown", "dump": None})
+    room.write_setup(
+        "shown.txt",
+        {"block_nr": str(ring["block_nr"]), "frame_nr": str(count), "out": "shown", "dump": None},
+    )
     phase = ["--phase", str(ring["phase"])]
     poll = ["--program", str(room.program)]
     work.run("schedule.py", "shown.txt", *work.words, *phase, *poll, "-o", "shown.sched")
     steps = work.object("timeline.py", "shown.txt", "shown.sched", "--picture", "fill.svg")
-    lost = work.object("lost.py", "shown.txt", "shown.sched", "--bins", str(BINS), "--picture", "lost.svg")
+    lost = work.object(
+        "lost.py", "shown.txt", "shown.sched", "--bins", str(BINS), "--picture", "lost.svg"
+    )
     return {"sizes": found, "shown": ring, "members": steps["members"], "lost": lost}
 
 
@@ -156,16 +178,45 @@ def answer_words(found: dict) -> str:
 def page_of(title: str, assumed: str, made: dict, pictures: dict[str, str]) -> str:
     """The whole page."""
     found, shown, lost = made["sizes"], made["shown"], made["lost"]
-    about = [About(Path(one["path"]).name, one["frames"], 0, one["nanoseconds"], one["cut_frames"], one["cut_to"] or 0, one["end"], one["drops_told"])
-             for one in found["about"]["captures"]]
-    captures = [[one.path, one.frames, one.last / 1e9, one.cut, "-" if one.drops is None else one.drops] for one in about]
-    sizes = [[ring["block_nr"], ring["memory"], ring["fewest"], ring["drops"], ring["phase"]] for ring in found["rings"]]
-    flows = [[flow["flow"], flow["kept"], flow["lost"], flow["bytes_lost"]] for flow in lost["flows"][:FLOWS]]
-    members = [[one["member"], one["kept"], one["drops"], one["freezes"], one["most"], one["of"]] for one in made["members"]]
-    asked = [f"<code>{escape(found[name]['command'])}</code>" for name in ("tcpdump", "dumpcap") if name in found]
+    about = [
+        About(
+            Path(one["path"]).name,
+            one["frames"],
+            0,
+            one["nanoseconds"],
+            one["cut_frames"],
+            one["cut_to"] or 0,
+            one["end"],
+            one["drops_told"],
+        )
+        for one in found["about"]["captures"]
+    ]
+    captures = [
+        [one.path, one.frames, one.last / 1e9, one.cut, "-" if one.drops is None else one.drops]
+        for one in about
+    ]
+    sizes = [
+        [ring["block_nr"], ring["memory"], ring["fewest"], ring["drops"], ring["phase"]]
+        for ring in found["rings"]
+    ]
+    flows = [
+        [flow["flow"], flow["kept"], flow["lost"], flow["bytes_lost"]]
+        for flow in lost["flows"][:FLOWS]
+    ]
+    members = [
+        [one["member"], one["kept"], one["drops"], one["freezes"], one["most"], one["of"]]
+        for one in made["members"]
+    ]
+    asked = [
+        f"<code>{escape(found[name]['command'])}</code>"
+        for name in ("tcpdump", "dumpcap")
+        if name in found
+    ]
     parts = [
         f"<h1>{escape(title)}</h1>",
-        f'<p class="answer">{answer_words(found)}' + (f" {' or '.join(asked)} asks for it." if asked else "") + "</p>",
+        f'<p class="answer">{answer_words(found)}'
+        + (f" {' or '.join(asked)} asks for it." if asked else "")
+        + "</p>",
         f"<p>{escape(about_words(about, found['about']['filtered']).capitalize())}.</p>",
         f"<p>Assumed of the reader: {escape(assumed)}. Found by the tools' own model and judged by <code>ringtap replay</code>.</p>",
         "<h2>The captures</h2>",
@@ -180,7 +231,9 @@ def page_of(title: str, assumed: str, made: dict, pictures: dict[str, str]) -> s
         rows_of(["member", "kept", "dropped", "freezes", "most blocks", "of"], members),
         "<h2>What it loses, and when</h2>",
         f'<div class="picture">{pictures["lost"]}</div>',
-        rows_of(["flow", "kept", "lost", "bytes lost"], flows) if flows else "<p>No packet is lost.</p>",
+        rows_of(["flow", "kept", "lost", "bytes lost"], flows)
+        if flows
+        else "<p>No packet is lost.</p>",
     ]
     data = json.dumps(made).replace("</", "<\\/")
     return (
@@ -193,8 +246,21 @@ def page_of(title: str, assumed: str, made: dict, pictures: dict[str, str]) -> s
 
 def parser_of() -> ToolParser:
     parser = ToolParser(__doc__, "demo/lo.pcap -o report.html")
-    parser.add_argument("inputs", type=Path, nargs="+", metavar="SETUP|CAPTURE", help="a setup, or the capture of each CPU")
-    parser.add_argument("-o", "--output", type=Path, default=Path("report.html"), metavar="FILE", help="the page (report.html)")
+    parser.add_argument(
+        "inputs",
+        type=Path,
+        nargs="+",
+        metavar="SETUP|CAPTURE",
+        help="a setup, or the capture of each CPU",
+    )
+    parser.add_argument(
+        "-o",
+        "--output",
+        type=Path,
+        default=Path("report.html"),
+        metavar="FILE",
+        help="the page (report.html)",
+    )
     add_pace(parser, has_phase=False)
     add_json(parser)
     add_program(parser)
@@ -217,12 +283,18 @@ def main(words: list[str]) -> int:
         for one, path in zip(made["sizes"]["about"]["captures"], setup.capture_paths()):
             one["path"] = str(path)
         ring = f"{made['shown']['block_nr']} blocks, phase {made['shown']['phase']}"
-        said = {"shown.txt by shown.sched": ring, "shown.txt of ": "", ", by shown.sched": f"; {ring}"}
+        said = {
+            "shown.txt by shown.sched": ring,
+            "shown.txt of ": "",
+            ", by shown.sched": f"; {ring}",
+        }
         said |= {name: path.name for name, path in zip(names, setup.capture_paths())}
         files = {"drops": "pictures/drops.svg", "fill": "fill.svg", "lost": "lost.svg"}
         pictures = {name: work.picture(file, said) for name, file in files.items()}
     shown = ", ".join(path.name for path in setup.capture_paths())
-    title = f"The ring for {shown}" if is_made(setup) else f"{setup.path.name}: the ring for {shown}"
+    title = (
+        f"The ring for {shown}" if is_made(setup) else f"{setup.path.name}: the ring for {shown}"
+    )
     write_text(args.output, page_of(title, reader_words(pace_of(args), "blocks"), made, pictures))
     if args.json:
         print_json(made | {"output": str(args.output)})

@@ -1,14 +1,18 @@
 #!/usr/bin/env python3
-"""Names the least ring that never freezes over some captures, and how to ask tcpdump, dumpcap and Suricata for it.
+"""Names the least ring that never freezes over some captures, and how to ask tcpdump, dumpcap and
+Suricata for it.
 
-Give the captures of the CPUs, one each, or a setup. A grid of rings is tried: every block size, number of blocks, time-out, number of members and
-mode that is given with each of the others. It isn't known when a program starts its timer, so a model of the tool's own looks at every whole
-millisecond of it, and finds the least ring and the phase at which it has to be so large; `ringtap replay` then judges: there it never freezes, and one
-block less freezes. With --phases, with rollover and for slots the program itself is run at so many phases, the number of blocks being doubled and
-then halved to the least that loses nothing.
+Give the captures of the CPUs, one each, or a setup. A grid of rings is tried: every block size,
+number of blocks, time-out, number of members and mode that is given with each of the others. It
+isn't known when a program starts its timer, so a model of the tool's own looks at every whole
+millisecond of it, and finds the least ring and the phase at which it has to be so large; `ringtap
+replay` then judges: there it never freezes, and one block less freezes. With --phases, with
+rollover and for slots the program itself is run at so many phases, the number of blocks being
+doubled and then halved to the least that loses nothing.
 
-The feeds have the captures' own times, or a rate. The memory is that of the blocks of all members together. The status is 0 where a ring
-suffices, 3 where none does, and 4 where the captures give no answer: no frame, all filtered, or only a part of them was read.
+The feeds have the captures' own times, or a rate. The memory is that of the blocks of all
+members together. The status is 0 where a ring suffices, 3 where none does, and 4 where the
+captures give no answer: no frame, all filtered, or only a part of them was read.
 """
 from __future__ import annotations
 
@@ -144,7 +148,8 @@ def grid_of(setup: Setup, args: argparse.Namespace) -> list[Ring]:
 
 
 def chosen_key(setup: Setup) -> None:
-    """Gives the usual key of receive side scaling to a setup that was made here; another has to have its own."""
+    """Gives the usual key of receive side scaling to a setup that was made here; another has to
+    have its own."""
     if not is_made(setup):
         raise Fault(f'{setup.path}: has no line "key", and mode hash needs one, as "key {KEY}"')
     setup.lines.append(f"key {KEY}")
@@ -237,7 +242,8 @@ def member_rows(trials: Trials, results: list[Result]) -> list[list[object]]:
 
 
 def evenness_rows(rows: list[list[object]]) -> list[list[object]]:
-    """The largest member to the mean one, of each mode and number of members: packets, kept or dropped, and bytes kept."""
+    """The largest member to the mean one, of each mode and number of members: packets, kept or
+    dropped, and bytes kept."""
     found = []
     for (mode, members), group in itertools.groupby(rows, key=lambda row: (row[0], row[1])):
         mine = list(group)
@@ -255,7 +261,8 @@ def part_words(ring: Ring, names: list[str]) -> list[str]:
 
 
 def panel_parts(rings: list[Ring]) -> list[str]:
-    """What tells the panels of a picture apart: as little as leaves none more lines than there are colors, where that can be had."""
+    """What tells the panels of a picture apart: as little as leaves none more lines than there
+    are colors, where that can be had."""
     names = list(PARTS)
     for count in range(len(names)):
         sizes = Counter(tuple(part_words(ring, names[:count])) for ring in rings)
@@ -274,7 +281,8 @@ def series_name(ring: Ring, rings: list[Ring], named: list[str]) -> str:
 
 
 def drops_picture(results: list[Result], least: Result | None, title: str) -> str:
-    """Drops at the worst phase against memory: several panels, one for each mode, where one would have too many lines."""
+    """Drops at the worst phase against memory: several panels, one for each mode, where one
+    would have too many lines."""
     lines = lines_of(results)
     rings = [line[0].ring for line in lines]
     named = panel_parts(rings)

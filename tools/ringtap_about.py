@@ -1,5 +1,5 @@
-"""What is to be known of captures before an answer on them is believed: how many frames, whether they
-are whole, cut or filtered, and whether the capture itself lost some."""
+"""What is to be known of captures before an answer on them is believed: how many frames, whether
+they are whole, cut or filtered, and whether the capture itself lost some."""
 from __future__ import annotations
 
 from typing import Sequence
@@ -56,15 +56,21 @@ def about_words(about: Sequence[About], filtered: int) -> str:
         parts.append(f"{filtered:,} filtered")
     told = [one.drops for one in about if one.drops is not None]
     if told:
-        parts.append(f"its own statistics tell of {sum(told):,} drops" + ": it lacks them" * (sum(told) > 0))
+        parts.append(
+            f"its own statistics tell of {sum(told):,} drops" + ": it lacks them" * (sum(told) > 0)
+        )
     return "; ".join(parts)
 
 
 def about_object(about: Sequence[About], filtered: int | None) -> dict[str, object]:
     captures = [
         {
-            "path": str(one.path), "frames": one.frames, "nanoseconds": one.last - one.first,
-            "end": one.end, "cut_frames": one.cut, "cut_to": one.longest if one.cut else None,
+            "path": str(one.path),
+            "frames": one.frames,
+            "nanoseconds": one.last - one.first,
+            "end": one.end,
+            "cut_frames": one.cut,
+            "cut_to": one.longest if one.cut else None,
             "drops_told": one.drops,
         }
         for one in about

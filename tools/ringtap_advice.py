@@ -39,7 +39,11 @@ class Advice:
         return [f"{self.lines[0]}   (tried {how})"]
 
     def model_words(self) -> str:
-        return "" if self.is_judged else "; by the tool's own model alone, since ringtap can't make such a run"
+        return (
+            ""
+            if self.is_judged
+            else "; by the tool's own model alone, since ringtap can't make such a run"
+        )
 
     def object(self) -> dict[str, object]:
         words = dict(line.split(": ", 1) for line in self.lines) if not self.is_libpcap else {}
@@ -61,7 +65,9 @@ def judged(trials: Trials, model: Model, ring: Ring, least: Least) -> bool:
 def advice_of(trials: Trials, model: Model, ring: Ring, is_reserved: bool) -> list[Advice]:
     """How programs are asked for rings that never freeze, of what the answer's ring is for."""
     found = without_reserve(trials, model, ring)
-    timeouts = {TCPDUMP_TIMEOUT, DUMPCAP_TIMEOUT} if ring.timeout == TCPDUMP_TIMEOUT else {ring.timeout}
+    timeouts = (
+        {TCPDUMP_TIMEOUT, DUMPCAP_TIMEOUT} if ring.timeout == TCPDUMP_TIMEOUT else {ring.timeout}
+    )
     if (ring.block_size, ring.members) != (LIBPCAP_BLOCK, 1):
         return found
     if not is_reserved and not use_longer(trials):
@@ -84,10 +90,12 @@ def without_reserve(trials: Trials, model: Model, ring: Ring) -> list[Advice]:
 
 
 def use_longer(trials: Trials) -> bool:
-    """Makes runs of the same captures with libpcap's bytes; False where these come out too large."""
+    """Makes runs of the same captures with libpcap's bytes; False where these come out too
+    large."""
     room = trials.room
     trials.captures = [
-        longer(stream, room.folder / f"longer{cpu}.pcap") for cpu, stream in enumerate(room.streams())
+        longer(stream, room.folder / f"longer{cpu}.pcap")
+        for cpu, stream in enumerate(room.streams())
     ]
     sizes = [(room.folder / name).stat().st_size for name in trials.captures]
     return max(sizes) <= LARGEST_CAPTURE
@@ -109,7 +117,10 @@ def suricata(trials: Trials, model: Model, ring: Ring) -> list[Advice]:
     if ring.members > 1 and mode not in CLUSTERS or mode.endswith(ROLLOVER) or mode == "rollover":
         return []
     its = replace(
-        ring, block_size=DEFAULT_BLOCK, timeout=DEFAULT_TIMEOUT, block_nr=LEAST_BLOCKS,
+        ring,
+        block_size=DEFAULT_BLOCK,
+        timeout=DEFAULT_TIMEOUT,
+        block_nr=LEAST_BLOCKS,
         frame_size=min(ring.frame_size, DEFAULT_BLOCK),
     )
     least = model.worst_least(its)

@@ -1,7 +1,7 @@
 """What each member of a group is given: the packets that pass, in the order in which they are fed.
 
-A run of the program over rings that keep all says which frames pass, how many bytes a block takes of
-each at most, and its flow hash under a key. How a mode deals them out is counted here.
+A run of the program over rings that keep all says which frames pass, how many bytes a block takes
+of each at most, and its flow hash under a key. How a mode deals them out is counted here.
 """
 from __future__ import annotations
 
@@ -19,7 +19,9 @@ from schedule import Fed
 
 CPU_BITS = 24  # of a frame's number
 PACKET = struct.Struct("<IIII12xI")  # next offset, seconds, nanoseconds, snap length, flow hash
-DESCRIPTOR = struct.Struct("<III")  # of a block, from byte 12 on: packets, the first one's place, bytes
+DESCRIPTOR = struct.Struct(
+    "<III"
+)  # of a block, from byte 12 on: packets, the first one's place, bytes
 
 Seen = tuple[int, int]  # how many bytes of a packet at most, and its flow hash
 
@@ -78,7 +80,9 @@ def seen(room: Room, captures: list[Frames], key: str | None = None) -> dict[int
     for member in range(len(report.members)):
         found.update(seen_in(room.folder / f"given.{member}.blk"))
     if len(found) != report.kept:
-        raise Fault(f"{room.setup.path}: {report.kept} packets were kept, and the dump has {len(found)}")
+        raise Fault(
+            f"{room.setup.path}: {report.kept} packets were kept, and the dump has {len(found)}"
+        )
     return found
 
 

@@ -10,7 +10,8 @@ ROLLOVER_NOTE = (
 
 
 def rollover_note(setup: Setup, modes: list[str] | None = None) -> list[str]:
-    """What is to be said where a group rolls over, by its setup or by the modes that are asked for."""
+    """What is to be said where a group rolls over, by its setup or by the modes that are asked
+    for."""
     own = [setup.word("mode", "cpu"), *setup.flags]
     chosen = own if modes is None else [part for mode in modes for part in mode.split("+")]
     several = modes is not None or setup.number("members", 1) > 1

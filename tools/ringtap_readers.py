@@ -1,8 +1,9 @@
-"""Which readers explain a drop counter: an operator knows what was lost, and not what his reader did.
+"""Which readers explain a drop counter: an operator knows what was lost, and not what his reader
+did.
 
-By the tools' own model, for the ring that a setup has: the phases of the timer at which the reader as
-given loses so many; one stop of the reader, begun anywhere; or a reader of so many blocks a second. For
-each it says how long or how fast, and the least ring that would never have frozen.
+By the tools' own model, for the ring that a setup has: the phases of the timer at which the reader
+as given loses so many; one stop of the reader, begun anywhere; or a reader of so many blocks a
+second. For each it says how long or how fast, and the least ring that would never have frozen.
 """
 from __future__ import annotations
 
@@ -22,7 +23,8 @@ STEPS = 24  # of halving between two speeds
 
 @dataclass(frozen=True)
 class Reading:
-    """Readers that explain a counter: what kind, from which number to which, and the ring for them."""
+    """Readers that explain a counter: what kind, from which number to which, and the ring for
+    them."""
 
     kind: str  # "phase", "stop" or "speed"
     least: float
@@ -37,15 +39,23 @@ class Reading:
             return f"the timer alone, at phases from {self.least:g} to {self.most:g} ms: {need}"
         if self.kind == "stop":
             first, last = self.begins or (0, 0)
-            where = f"begun from {first:g} to {last:g} ms on" if first != last else f"begun at {first:g} ms"
+            where = (
+                f"begun from {first:g} to {last:g} ms on"
+                if first != last
+                else f"begun at {first:g} ms"
+            )
             return f"one stop of the reader of {self.least:g} to {self.most:g} ms, {where}: {need}"
         return f"a reader of {self.least:.4g} to {self.most:.4g} blocks a second: {need}"
 
     def object(self) -> dict[str, object]:
         phase = self.example[1] if self.example else None
         return {
-            "kind": self.kind, "least": self.least, "most": self.most, "begins": self.begins,
-            "blocks": self.blocks, "phase_of_example": phase,
+            "kind": self.kind,
+            "least": self.least,
+            "most": self.most,
+            "begins": self.begins,
+            "blocks": self.blocks,
+            "phase_of_example": phase,
         }
 
 
@@ -111,8 +121,12 @@ class Readings:
 
     def lengths(self, begin: int, longest: int) -> tuple[int, int] | None:
         """The shortest and the longest stop that some phase explains the counter by."""
-        shortest = first_true(1, longest, lambda length: max(self.drops(self.stopped(begin, length))) >= self.lost)
-        past = first_true(1, longest, lambda length: min(self.drops(self.stopped(begin, length))) > self.lost)
+        shortest = first_true(
+            1, longest, lambda length: max(self.drops(self.stopped(begin, length))) >= self.lost
+        )
+        past = first_true(
+            1, longest, lambda length: min(self.drops(self.stopped(begin, length))) > self.lost
+        )
         if shortest is None:
             return None
         most = longest if past is None else past - 1
@@ -136,14 +150,17 @@ class Readings:
         if slow > last:
             return None
         blocks = self.blocks(at(slow))
-        return Reading("speed", float(at(slow).blocks), float(at(last).blocks), None, blocks, self.example)
+        return Reading(
+            "speed", float(at(slow).blocks), float(at(last).blocks), None, blocks, self.example
+        )
 
     def all(self) -> list[Reading]:
         return [one for one in (self.by_phase(), self.by_stop(), self.by_speed()) if one]
 
 
 def first_true(low: int, high: int, test) -> int | None:
-    """The first number for which a test holds that holds from some number on; None where none does."""
+    """The first number for which a test holds that holds from some number on; None where none
+    does."""
     if not test(high):
         return None
     while low < high:

@@ -1,9 +1,10 @@
-"""The tools' own model of groups that roll over, packet by packet: as ringtap does, and as a kernel.
+"""The tools' own model of groups that roll over, packet by packet: as ringtap does, and as a
+kernel.
 
 A kernel asks whether a member has room, not whether the packet fits: the home takes a packet unless
 its ring is frozen, and a backup takes one while more than a quarter of its ring is free
-(`fanout_demux_rollover` and `__tpacket_v3_has_room` of net/packet/af_packet.c). Left out are its huge
-flows and its socket pressure. Times are nanoseconds from the first frame on.
+(`fanout_demux_rollover` and `__tpacket_v3_has_room` of net/packet/af_packet.c). Left out are its
+huge flows and its socket pressure. Times are nanoseconds from the first frame on.
 """
 from __future__ import annotations
 

@@ -17,7 +17,15 @@ from ringtap_clock import Pace
 from ringtap_files import Fault
 from ringtap_given import Offers, offers_of, rehashed
 from ringtap_model import (
-    Course, Packets, Reader, Timer, course_of, course_of_slots, least_blocks, need_of, room_of,
+    Course,
+    Packets,
+    Reader,
+    Timer,
+    course_of,
+    course_of_slots,
+    least_blocks,
+    need_of,
+    room_of,
 )
 from ringtap_rollover import Arrival, BlockRing, SlotRing, rolled
 from ringtap_runs import Progress, Room
@@ -135,7 +143,8 @@ class Model:
             for when, cpu, home, snap in zip(offers.times, offers.cpus, homes, offers.snaps)
         ]
         rings: list[BlockRing] = [
-            SlotRing(ring.slots, self.reader(ring)) if ring.is_v2
+            SlotRing(ring.slots, self.reader(ring))
+            if ring.is_v2
             else BlockRing(room, ring.block_nr, timer, self.reader(ring))
             for _ in range(ring.members)
         ]

@@ -1,5 +1,6 @@
 #!/usr/bin/env python3
-"""Makes the dumps and images of this folder anew, by the program that is named: make.py RINGTAP [FOLDER]."""
+"""Makes the dumps and images of this folder anew, by the program that is named: make.py RINGTAP
+[FOLDER]."""
 from __future__ import annotations
 
 import struct
@@ -18,7 +19,10 @@ def frame(number: int, size: int = 60, tag: bytes = b"") -> bytes:
 
 def capture(frames: list[bytes]) -> bytes:
     head = struct.pack("<IHHiIII", 0xA1B2C3D4, 2, 4, 0, 0, 262_144, 1)
-    records = [struct.pack("<IIII", 1000, number, len(data), len(data)) + data for number, data in enumerate(frames)]
+    records = [
+        struct.pack("<IIII", 1000, number, len(data), len(data)) + data
+        for number, data in enumerate(frames)
+    ]
     return head + b"".join(records)
 
 
