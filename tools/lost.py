@@ -24,6 +24,7 @@ from ringtap_arrivals import DESCRIPTOR, KEPT, PACKET_HEADER, PASSED, Frames, fi
 from ringtap_captures import CaptureStream, CaptureWriter, Frame
 from ringtap_files import NANOSECONDS, Fault, Setup, output_names, read_setup, run_main
 from ringtap_flows import VLAN_TYPES, Flow, flow_of, flow_words
+from ringtap_notes import rollover_note
 from ringtap_outputs import check_outputs, written
 from ringtap_runs import Report, Room, add_program, program_of, table
 from ringtap_words import ToolParser, add_json, print_json
@@ -391,6 +392,8 @@ def main(words: list[str]) -> int:
     if args.json:
         print_json(object_of(answer, args))
     else:
+        for note in rollover_note(setup):
+            print(note, file=sys.stderr)
         print_text(answer, args)
     if args.picture:
         save_picture(args.picture, picture_of(answer.bins, f"{names_of(setup)}, by {args.schedule or 'an earlier run'}"))

@@ -20,6 +20,7 @@ sys.path.insert(0, str(Path(__file__).resolve().parent))  # which `python3 -I` l
 from ringtap_documents import plain, table_with
 from ringtap_files import LARGEST_NAME, LARGEST_TEXT, Fault, Setup, output_names, read_setup, run_main, words_of
 from ringtap_kinds import explain_end, why_of
+from ringtap_notes import rollover_note
 from ringtap_outputs import is_device, is_same, named_by, write_bytes, write_text
 from ringtap_refusals import Place, all_filtered, explain, meant, read_lines, refusal_of
 from ringtap_runs import Report, add_program, environment_of, program_of, report_of, status_words
@@ -313,6 +314,8 @@ def object_of(asked: Asked, done: Done, told: list[str]) -> dict[str, object]:
 
 def say(asked: Asked, done: Done, told: list[str]) -> None:
     sys.stderr.buffer.write(done.said)
+    if done.status in (0, 4) and asked.setup:
+        told = [*told, *rollover_note(asked.setup)]
     where = f"; outputs are in {asked.folder}" if asked.folder and asked.folder.exists() else ""
     for line in [*told, f"ringtap: status {done.status}: {status_words(done.status)}{where}"]:
         print(line, file=sys.stderr)

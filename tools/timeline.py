@@ -20,6 +20,7 @@ sys.path.insert(0, str(Path(__file__).resolve().parent))  # which `python3 -I` l
 import blocks as dump
 from ringtap_arrivals import PACKET_HEADER, Frames, first_time, frame_of, keep_all, numbered, outputs
 from ringtap_files import NANOSECONDS, Fault, Setup, read_setup, run_main, words_of
+from ringtap_notes import rollover_note
 from ringtap_outputs import check_outputs
 from ringtap_runs import Report, Room, add_program, program_of, table
 from ringtap_words import ToolParser, add_json, print_json
@@ -425,6 +426,8 @@ def main(words: list[str]) -> int:
     if args.json:
         print_json(object_of(run))
     else:
+        for note in rollover_note(setup):
+            print(note, file=sys.stderr)
         print_text(run)
     if args.picture:
         save_picture(args.picture, picture_of(run, args.schedule))
