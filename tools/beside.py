@@ -233,7 +233,7 @@ def seconds_asked(args: argparse.Namespace, about: dict) -> float:
 
 def parser_of() -> ToolParser:
     parser = ToolParser(
-        __doc__, "demo/lo.pcap --stop 100:500 -- tcpdump -i {} -Z root -w /dev/null"
+        __doc__, "lo.pcap --stop 100:500 -- tcpdump -i {} -w /dev/null"
     )
     parser.add_argument("capture", type=Path, metavar="CAPTURE", help="what is sent")
     parser.add_argument(

@@ -12,7 +12,6 @@ from collections import deque
 from dataclasses import dataclass
 from typing import Sequence
 
-from ringtap_clock import NEVER
 from ringtap_model import Course, Deadline, Reader, Timer
 
 QUARTER = 4  # of a ring, which a kernel's backup keeps free

@@ -6,6 +6,7 @@ from __future__ import annotations
 import os
 import re
 import shutil
+import stat
 import subprocess
 import tarfile
 from collections.abc import Iterator
@@ -180,9 +181,21 @@ def by_user(root: Path, command: str) -> str:
     return done.stdout
 
 
+def with_null(root: Path) -> None:
+    """The system's /dev/null in another root: a tool hands outputs that nobody asked for to it."""
+    (root / "dev").mkdir(exist_ok=True)
+    try:
+        os.mknod(root / "dev/null", stat.S_IFCHR | 0o666, os.makedev(1, 3))
+        (root / "dev/null").chmod(0o666)
+        (root / "dev/null").write_bytes(b"")
+    except OSError as why:
+        pytest.skip(f"needs the right to make /dev/null in a root: {why}")
+
+
 @pytest.mark.needs("a chroot")
 def test_readme(root: Path) -> None:
     """Its commands, with the package's names for the tools."""
+    with_null(root)
     commands = documents.steps((TOP / "README.md").read_text(encoding="utf-8"))
     assert commands
     for command, lines in commands:

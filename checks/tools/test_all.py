@@ -264,16 +264,14 @@ def examples(document: Path) -> list[tuple[list[str], str]]:
 def test_examples(here: Here) -> None:
     """The commands of docs/tools.md print what is shown below them; of a schedule, a timeline
     and a dump the first lines."""
-    folder = here.path / "examples"
-    folder.mkdir()
-    (folder / "demo").symlink_to(TOP / "demo")
-    (folder / "checks").symlink_to(TOP / "checks")
-    (folder / "examples").symlink_to(TOP / "examples")
-    (folder / "in.0.pcap").write_bytes((TOP / "demo" / "lo.pcap").read_bytes())
-    (folder / "clash.txt").write_text(BLOCK + "cpu in.0.pcap\nout in\n")
-    (folder / "cluster.txt").write_text(BLOCK + "cpu in.0.pcap\nmode cluster_flow\n")
-    (folder / "packed.txt").write_text(BLOCK + "cpu lo.pcap.gz\n")
-    (folder / "lo.pcap.gz").write_bytes(gzip.compress((TOP / "demo" / "lo.pcap").read_bytes()))
+    for name in ("demo", "checks", "examples"):
+        (here.path / name).symlink_to(TOP / name)
+    ours = (TOP / "demo" / "lo.pcap").read_bytes()
+    here.saved("in.0.pcap", ours)
+    here.saved("lo.pcap.gz", gzip.compress(ours))
+    here.text("clash.txt", BLOCK + "cpu in.0.pcap\nout in\n")
+    here.text("cluster.txt", BLOCK + "cpu in.0.pcap\nmode cluster_flow\n")
+    here.text("packed.txt", BLOCK + "cpu lo.pcap.gz\n")
     for shown, wanted in examples(TOP / "docs" / "tools.md"):
         what, words = " ".join(shown), list[str | Path](shown)
         if shown[0] == "python3":
@@ -284,7 +282,7 @@ def test_examples(here: Here) -> None:
                 sys.executable, "-B", TOP / shown[1], *shown[2:],
                 *["--program", here.program] * has_program
             ]
-        printed, said, status = here.answer(words, folder)
+        printed, said, status = here.answer(words)
         given = (printed + said).rstrip("\n") if isinstance(status, int) else status
         if any(tool in what for tool in ("schedule.py", "timeline.py", "blocks.py")):
             given = "\n".join(given.split("\n")[: wanted.count("\n") + 1])

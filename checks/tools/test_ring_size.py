@@ -267,7 +267,7 @@ def test_refused(here: Here) -> None:
     (here.path / "alias.pcap").symlink_to("many.pcap")
     said = {
         ("--stall", "1:2"): (
-            "--stall: says when no reader reads, and nobody reads at all: --blocks, --bytes or "
+            "--stall: says when no reader reads, and nobody reads at all: --blocks, --bytes, "
             "--pause or --poll gives a reader"
         ),
         ("--phases", "0"): "--phases: a number from 1 to 1000",
