@@ -1,3 +1,7 @@
 pub mod Accepted
 pub mod DraftLines
+pub mod Ends
+pub mod Feeds
 pub mod MemoryErrors
+pub mod Schedules
+pub mod Timelines

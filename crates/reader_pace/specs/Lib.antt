@@ -1,7 +1,9 @@
 pub mod Answers
 pub mod Drafts
 pub mod KindWords
+pub mod Orders
 pub mod ReaderWords
 pub mod Readers
 pub mod Sound
+pub mod Timelines
 pub mod Values
