@@ -1,8 +1,8 @@
-//! Tests of rings and of the bytes in them. What threads share: rings of blocks of one letter, a
-//! dealer of tickets, and a diary that seats write in turns. Blocks: texts that another program
-//! wrote, the limits of the rules, and receive rings of two blocks of a page, with the notes, the
-//! statuses and the ends of blocks that follow from the rules, worked out by hand. Slots: as bytes,
-//! in rings of TPACKET_V2 and in transmit rings. Rings on one thread, and between two.
+//! Tests of rings and of the bytes in them. What threads share: a dealer of tickets, and a diary
+//! that seats write in turns. Blocks: texts that another program wrote, the limits of the rules, and
+//! receive rings of two blocks of a page, with the notes, the statuses and the ends of blocks that
+//! follow from the rules, worked out by hand. Slots: as bytes, in rings of TPACKET_V2 and in transmit
+//! rings. Rings on one thread, and between two.
 #![tactic(auto)]
 
 #[cfg(test)]
@@ -14,23 +14,19 @@ mod changed_bytes;
 #[cfg(test)]
 mod diaries;
 #[cfg(test)]
-mod faults;
+mod dumps;
 #[cfg(test)]
-mod letters;
+mod faults;
 #[cfg(test)]
 mod limits;
 #[cfg(test)]
 mod plain_runs;
-#[cfg(test)]
-mod plain_steps;
 #[cfg(test)]
 mod producer_calls;
 #[cfg(test)]
 mod producer_rows;
 #[cfg(test)]
 mod readers;
-#[cfg(test)]
-mod relays;
 #[cfg(test)]
 mod ring_calls;
 #[cfg(test)]
@@ -47,10 +43,6 @@ mod slot_texts;
 mod slot_threads;
 #[cfg(test)]
 mod slots;
-#[cfg(test)]
-mod table_rounds;
-#[cfg(test)]
-mod table_steps;
 #[cfg(test)]
 mod texts;
 #[cfg(test)]

@@ -5,9 +5,10 @@ ghost use Rattle.ring_words.specs.PlainRings.{has_block};
 ghost use Rattle.slot_layout.specs.SlotShapes.{IsSlotShape};
 ghost use Rattle.tp_layout.specs.Requests.{numbers_of};
 
+use crate::dumps::bytes_of;
 use crate::ring_calls::{Ring, new_ring, put, try_put};
 use crate::sample_slots::sample_shape;
-use frame_view::{ByteList, Memory};
+use frame_view::Memory;
 use reader_walk::Outputs;
 use ring_model::Put;
 use std::alloc::Global;
@@ -98,7 +99,7 @@ static ACTS: [(Act, Came); 14] = [
 const TEXT: usize = 126;
 
 /// The status of slot `at` of a dump of slots with frames of 60 bytes.
-fn status(dump: &ByteList, at: usize) -> Option<u8> {
+fn status(dump: &[u8], at: usize) -> Option<u8> {
     dump.get(TEXT.checked_mul(at)?).copied()
 }
 
@@ -107,10 +108,13 @@ fn status(dump: &ByteList, at: usize) -> Option<u8> {
 type Seen = ((usize, usize, u64), [Option<u8>; 3]);
 
 /// What is reported of what was read.
-fn seen_of(outputs: Outputs) -> Seen {
-    let dump = &outputs.dump;
+fn seen_of(alloc: Global, outputs: &Outputs) -> Result<Seen, Memory> {
+    let dump = bytes_of(alloc, &outputs.dump)?;
     let sizes = (outputs.walked.len(), dump.len(), outputs.blocks);
-    (sizes, [status(dump, 0), status(dump, 3), status(dump, 4)])
+    Ok((
+        sizes,
+        [status(&dump, 0), status(&dump, 3), status(&dump, 4)],
+    ))
 }
 
 /// Does these acts at a new ring, and returns how many had another result, and what is reported of
@@ -128,7 +132,7 @@ fn run(alloc: Global, shape: &Shape, acts: &[(Act, Came)]) -> Result<(u32, Seen)
             others += 1;
         }
     }
-    Ok((others, seen_of(reader.outputs())))
+    Ok((others, seen_of(alloc, &reader.outputs())?))
 }
 
 #[test]

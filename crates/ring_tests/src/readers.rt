@@ -6,6 +6,7 @@ ghost use Rattle.tp_layout.specs.Requests.{first_of, room_of};
 ghost use Rattle.tp_layout.specs.BlockWrites.{IsWritable, zero_block};
 
 use crate::blocks::page_shape;
+use crate::dumps::bytes_of;
 use frame_view::{ByteList, Frame, Memory, Packet};
 use reader_walk::{Outputs, Reader, Taker};
 use ring_model::{Offer, need};
@@ -90,14 +91,15 @@ fn is_that_packet(packet: &Packet) -> bool {
 }
 
 /// What is reported of what was read.
-fn seen_of(outputs: &Outputs) -> Seen {
+fn seen_of(alloc: Global, outputs: &Outputs) -> Result<Seen, Memory> {
     let packets = &outputs.walked;
-    let sizes = (outputs.blocks, packets.len(), outputs.dump.len());
+    let dump = bytes_of(alloc, &outputs.dump)?;
+    let sizes = (outputs.blocks, packets.len(), dump.len());
     let are_that = [
         packets.get(0).is_some_and(is_that_packet),
         packets.get(1).is_some_and(is_that_packet),
     ];
-    (sizes, are_that)
+    Ok((sizes, are_that))
 }
 
 /// What a reader reads from two blocks, one handed to it as a reader and one as a taker.
@@ -114,7 +116,7 @@ fn read_two(
     let mut reader = Reader::new(alloc, *shape, dump);
     reader.walk_block(first)?;
     Taker::block(&mut reader, second)?;
-    Ok(seen_of(&reader.outputs()))
+    seen_of(alloc, &reader.outputs())
 }
 
 /// What a reader reads from two blocks with only that frame, with their texts kept or without.

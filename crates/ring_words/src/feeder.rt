@@ -6,12 +6,12 @@ ghost use Rattle.ring_words.specs.Rings.{IsStatus};
 
 use crate::handover::{FeederLooks, FeederStores, Handover, RingSeat, RingTable};
 use crate::knowledge::Known;
+use crate::sleepers::Sleeper;
 use crate::{Content, FeederEnd, Next};
 use atomic_table::{Seat, Shared};
 use std::marker::Model;
 use std::snapshot::Snapshot;
 use std::sync::Arc;
-use std::sync::atomic::{AtomicBool, Ordering};
 
 /// The end of a ring between two threads that fills blocks and retires them. Contracts see which
 /// ring it belongs to, how many blocks it was given, the list of those that it retired, and the
@@ -29,7 +29,7 @@ pub struct TableFeeder<B: Content + Drop> {
     /// How many of them it retired.
     pub(crate) retired: u64,
     /// Whether the reader sleeps, or is about to, until its next block is retired.
-    pub(crate) sleeps: Arc<AtomicBool>,
+    pub(crate) sleeper: Arc<Sleeper>,
 }
 
 impl<B: Content + Drop> Model for TableFeeder<B> {
@@ -126,8 +126,7 @@ impl<B: Content + Drop> FeederEnd<B> for TableFeeder<B> {
         self.table
             .shared
             .store::<FeederStores>(&mut self.seat, place, word);
-        // Only now: a reader that says later that it sleeps finds this word before it does.
-        if self.sleeps.load(Ordering::SeqCst) {
+        if self.sleeper.is_asleep(&self.seat, self.retired) {
             self.table.shared.wake_one(place);
         }
     }

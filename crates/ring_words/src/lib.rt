@@ -9,6 +9,7 @@ mod handover;
 mod knowledge;
 mod pending_blocks;
 mod plain_ring;
+mod sleepers;
 mod tables;
 mod walker;
 

@@ -27,13 +27,13 @@ ghost use Rattle.std.specs.declared.snapshot.Snapshot.{Snapshot};
 
 use crate::handover::{Handover, RingSeat, RingTable};
 use crate::knowledge::{Apart, Known};
+use crate::sleepers::Sleeper;
 use crate::{Content, TableFeeder, TableWalker};
 use atomic_table::{Table, TableRule};
 use frame_view::Memory;
 use std::alloc::Global;
 use std::snapshot::Snapshot;
 use std::sync::Arc;
-use std::sync::atomic::AtomicBool;
 
 /// The two ends of a ring of these blocks, in the order of its places; each end may go to a thread
 /// of its own. The blocks are 2 to 65,536 of one kind.
@@ -55,14 +55,14 @@ pub fn table_ring<B: Content + Drop>(
     let (table, mut seat) = new_table(alloc, blocks)?;
     let other = table.shared.split_seat::<Apart>(&mut seat);
     let table = Arc::new(alloc, table)?;
-    let sleeps = Arc::new(alloc, AtomicBool::new(false))?;
+    let sleeper = Arc::new(alloc, Sleeper::new())?;
     let feeder = TableFeeder {
         table: Arc::try_clone(&table)?,
         seat,
         places: places as u64,
         given: 0,
         retired: 0,
-        sleeps: Arc::try_clone(&sleeps)?,
+        sleeper: Arc::try_clone(&sleeper)?,
     };
     let walker = TableWalker {
         table,
@@ -70,7 +70,7 @@ pub fn table_ring<B: Content + Drop>(
         places: places as u64,
         taken: 0,
         released: 0,
-        sleeps,
+        sleeper,
     };
     Ok((feeder, walker))
 }

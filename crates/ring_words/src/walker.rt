@@ -5,11 +5,11 @@ ghost use Rattle.ring_words.specs.Rings.{IsMark};
 
 use crate::handover::{Handover, RingSeat, RingTable, WalkerLooks, WalkerStores};
 use crate::knowledge::Known;
+use crate::sleepers::{Rest, Sleeper};
 use crate::{Content, WalkerEnd};
 use atomic_table::{Seat, Shared};
 use std::marker::Model;
 use std::snapshot::Snapshot;
-use std::sync::atomic::{AtomicBool, Ordering};
 use std::sync::{Arc, Wait};
 use std::time::Duration;
 
@@ -29,7 +29,7 @@ pub struct TableWalker<B: Content + Drop> {
     /// How many of them it released.
     pub(crate) released: u64,
     /// Whether it sleeps, or is about to, until its next block is retired.
-    pub(crate) sleeps: Arc<AtomicBool>,
+    pub(crate) sleeper: Arc<Sleeper>,
 }
 
 impl<B: Content + Drop> Model for TableWalker<B> {
@@ -83,14 +83,14 @@ impl<B: Content + Drop> TableWalker<B> {
     /// reason. No clause says that it sleeps or that it is woken.
     pub fn wait_for_block<R: Wait>(&self, rt: &R, most: Duration) {
         let place = (self.taken % self.places) as usize;
-        self.sleeps.store(true, Ordering::SeqCst);
-        // Only now: a feeder that retired the block before it saw this has stored its word.
-        let word = self.table.shared.peek(place);
+        let mut rest = Rest::new(&self.sleeper);
+        rest.say();
+        let word = rest.look(&self.table, place);
         if word % 2 == 0 {
             let mark = (word % (1 << 32)) as u32;
             self.table.shared.park_timeout(rt, place, mark, most);
         }
-        self.sleeps.store(false, Ordering::SeqCst);
+        rest.end();
     }
 }
 

@@ -1,5 +1,5 @@
 use Rattle.std.proofs.Common.{◌≡◌, ◌≤◌, false, length}
-use Rattle.ring_tests.proofs.table_rounds.first_miss.Given as goal
+use Rattle.handover_tests.proofs.table_rounds.first_miss.Given as goal
 
 -- at most one block was filled in each round, and none is in hand
 abbrev pub invariant-loop-round : goal.invariant-loop-round
