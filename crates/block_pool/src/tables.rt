@@ -5,8 +5,8 @@ ghost use Rattle.block_pool.specs.inside.PieceTables.{AreFull, HasPlaceIn, IsFul
 ghost use Rattle.block_pool.specs.inside.PieceTables.{empty_table, put_each, read_of};
 
 use crate::pieces::Piece;
-use frame_view::{ByteList, Memory, Packets};
-use reader_walk::Outputs;
+use frame_view::{Memory, Packets};
+use reader_walk::{Dump, Outputs};
 use std::alloc::Global;
 use std::marker::Model;
 
@@ -53,15 +53,15 @@ impl PieceTable {
     {
         let blocks = self.places.len() as u64;
         let mut walked = Vec::new(alloc);
-        let mut dump = Vec::new(alloc);
+        let mut dump = Dump::new(alloc);
         for place in self.places {
             let Some(piece) = place else { unreachable!() };
             walked.append(&mut piece.packets.into_vec())?;
-            dump.extend_from_slice(piece.text.as_slice())?;
+            dump.push(alloc, piece.text.as_slice())?;
         }
         Ok(Outputs {
             walked: Packets::from_vec(walked),
-            dump: ByteList::from_vec(dump),
+            dump,
             blocks,
         })
     }

@@ -1,4 +1,5 @@
 pub mod Takers
+pub mod Dumps
 pub mod Texts
 pub mod Readers
 pub mod ReadersInside

@@ -4,6 +4,7 @@ use Rattle.std.specs.Prelude.{OnErr, OnOk, Result}
 use Rattle.frame_view.specs.declared.frames.Packet.{Packet}
 use Rattle.tp_layout.specs.Layouts.{Taken}
 use Rattle.tp_layout.specs.declared.requests.RingRequest.{RingRequest}
+use Rattle.reader_walk.specs.Dumps.{texts_in}
 use Rattle.reader_walk.specs.Readers.{ReaderValue, kept_texts}
 use Rattle.reader_walk.specs.declared.copies.Mark.{Mark}
 use Rattle.reader_walk.specs.declared.copies.Copies.{Copies}
@@ -44,14 +45,14 @@ packets_in (mark ∷ marks) = mark.packets + packets_in marks
 pub record IsSound (text : RingRequest → Taken → List ℕ) (shape : RingRequest) (dumps : Bool)
     (copies : Copies) : Type 0 where
   pub counted : packets_in copies.marks.items ≡ length copies.walked.items
-  pub dump : copies.dump.items ≡ kept_texts text dumps shape (blocks_of copies)
+  pub dump : texts_in copies.dump ≡ kept_texts text dumps shape (blocks_of copies)
 
 -- what was taken was added to what was read, with this part of its text, or all is as before
 pub record Adds {E : Type 0} (taken : Taken) (text : List ℕ) (before after : Copies)
     (result : Result (Unit {0}) E) : Type 0 where
   pub marks : OnOk result (after.marks.items ≡ before.marks.items ++ mark_of taken ∷ [])
   pub walked : OnOk result (after.walked.items ≡ before.walked.items ++ taken.packets)
-  pub dump : OnOk result (after.dump.items ≡ before.dump.items ++ text)
+  pub dump : OnOk result (texts_in after.dump ≡ texts_in before.dump ++ text)
   pub same_marks : OnErr result (after.marks.items ≡ before.marks.items)
   pub same_walked : OnErr result (after.walked.items ≡ before.walked.items)
-  pub same_dump : OnErr result (after.dump.items ≡ before.dump.items)
+  pub same_dump : OnErr result (texts_in after.dump ≡ texts_in before.dump)

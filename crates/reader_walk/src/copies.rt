@@ -1,8 +1,10 @@
 //! The packets of the blocks or slots that were read, and which packets are of which block.
 ghost use Rattle.std.specs.Prelude.{◌≡◌, ◌+◌, ◌-◌, ◌≤◌, ℕ, [], ◌∷◌, ◌++◌, length, take, vec_len};
 ghost use Rattle.std.specs.Prelude.{vec_capacity, IfErr, IfOk, OnErr, OnOk};
+ghost use Rattle.reader_walk.specs.Dumps.{front_in, texts_in};
 ghost use Rattle.reader_walk.specs.Texts.{kept_if};
 
+use crate::dumps::Texts;
 use frame_view::{Memory, Packet};
 use std::alloc::Global;
 use tp_layout::Layout;
@@ -26,7 +28,7 @@ pub(crate) struct Copies {
     /// Their packets, in order.
     pub(crate) walked: Vec<Packet>,
     /// Their texts, in order, if they are kept.
-    pub(crate) dump: Vec<u8>,
+    pub(crate) dump: Texts,
     /// Memory for the data of the next block that is taken over, whose content says nothing.
     pub(crate) room: Vec<u8>,
 }
@@ -48,7 +50,7 @@ impl Copies {
             (B.text_of (B.shape unit.now) (B.taken_in (B.shape unit.now) (B.bytes unit.now))))
             self.old self.new result }
     {
-        let texts = self.add_text(unit, dumps)?;
+        let texts = self.add_text(alloc, unit, dumps)?;
         let earlier = self.walked.len();
         let pushed = unit.push_packets(alloc, &mut self.walked);
         self.add_mark(unit.head(), earlier, texts, pushed)
@@ -69,7 +71,7 @@ impl Copies {
             (B.text_of (B.shape unit) (B.taken_in (B.shape unit) (B.bytes unit))))
             self.old self.new result }
     {
-        let Ok(texts) = self.add_text(&unit, dumps) else {
+        let Ok(texts) = self.add_text(alloc, &unit, dumps) else {
             return Err(unit);
         };
         let earlier = self.walked.len();
@@ -79,24 +81,23 @@ impl Copies {
     }
 
     /// Makes room for a mark, and adds the text of a block or a slot if texts are kept; returns how
-    /// many bytes of texts there were. After `Memory` all is as before.
-    fn add_text<B: Layout>(&mut self, unit: &B, dumps: bool) -> Result<usize, Memory>
+    /// many bytes of the last piece come before it. After `Memory` all is as before.
+    fn add_text<B: Layout>(&mut self, alloc: Global, unit: &B, dumps: bool) -> Result<usize, Memory>
         requires ready { (number : ℕ) × (status : ℕ) × B.ready unit.now number status }
-        ensures count { IfOk result (λ count. count ≡ length self.old.dump.items) }
-        ensures dump { OnOk result (self.new.dump.items ≡ self.old.dump.items ++ kept_if dumps
+        ensures front { IfOk result (λ kept. front_in self.new.dump kept ≡ texts_in self.old.dump) }
+        ensures dump { OnOk result (texts_in self.new.dump ≡ texts_in self.old.dump ++ kept_if dumps
             (B.text_of (B.shape unit.now) (B.taken_in (B.shape unit.now) (B.bytes unit.now)))) }
         ensures room { OnOk result
             (vec_len self.new.marks + 1 ≤ vec_capacity self.new.marks) }
         ensures marks { self.new.marks.items ≡ self.old.marks.items }
         ensures walked { self.new.walked ≡ self.old.walked }
-        ensures same_dump { OnErr result (self.new.dump.items ≡ self.old.dump.items) }
+        ensures same_dump { OnErr result (texts_in self.new.dump ≡ texts_in self.old.dump) }
     {
         self.marks.reserve(1)?;
-        let texts = self.dump.len();
         if dumps {
-            self.dump.extend_from_slice(unit.text())?;
+            return self.dump.add(alloc, unit.text());
         }
-        Ok(texts)
+        Ok(self.dump.last.len())
     }
 
     /// Adds the mark of a block or a slot whose packets were pushed, or takes back what was pushed
@@ -117,16 +118,16 @@ impl Copies {
           packets = length self.old.walked.items - earlier;
         } ∷ []) }
         ensures walked { OnOk result (self.new.walked.items ≡ self.old.walked.items) }
-        ensures dump { OnOk result (self.new.dump.items ≡ self.old.dump.items) }
+        ensures dump { OnOk result (texts_in self.new.dump ≡ texts_in self.old.dump) }
         ensures same_marks { OnErr result (self.new.marks.items ≡ self.old.marks.items) }
         ensures front { OnErr result
             (self.new.walked.items ≡ take earlier self.old.walked.items) }
         ensures front_texts { OnErr result
-            (self.new.dump.items ≡ take texts self.old.dump.items) }
+            (texts_in self.new.dump ≡ front_in self.old.dump texts) }
     {
         if pushed.is_err() {
             self.walked.truncate(earlier);
-            self.dump.truncate(texts);
+            self.dump.take_back(texts);
             return pushed;
         }
         self.marks.push_reserved(Mark {

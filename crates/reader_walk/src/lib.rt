@@ -3,11 +3,13 @@
 #![tactic(auto)]
 
 mod copies;
+mod dumps;
 mod laws;
 mod outputs;
 mod reader;
 mod taker;
 
+pub use dumps::Dump;
 pub use laws::{a_block_has_few_packets, a_text_is_read_as_it_was_written};
 pub use outputs::Outputs;
 pub use reader::{Reader, RingReader};

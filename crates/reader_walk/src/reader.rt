@@ -13,8 +13,9 @@ ghost use Rattle.ring_words.specs.PlainRings.{GaveBack, PlainState, Stays, Took,
 ghost use Rattle.tp_layout.specs.Requests.{numbers_of};
 
 use crate::copies::Copies;
-use crate::{Outputs, Taker};
-use frame_view::{ByteList, Memory, Packet, Packets};
+use crate::dumps::Texts;
+use crate::{Dump, Outputs, Taker};
+use frame_view::{Memory, Packet, Packets};
 use ring_words::{ClosingRing, WalkerEnd};
 use std::alloc::Global;
 use std::marker::Model;
@@ -75,7 +76,7 @@ impl<B: Layout> RingReader<B> {
             copies: Copies {
                 marks: Vec::new(alloc),
                 walked: Vec::new(alloc),
-                dump: Vec::new(alloc),
+                dump: Texts::new(alloc),
                 room: Vec::new(alloc),
             },
             held: None,
@@ -247,7 +248,7 @@ impl<B: Layout> RingReader<B> {
         let blocks = self.copies.marks.len() as u64;
         Outputs {
             walked: Packets::from_vec(self.copies.walked),
-            dump: ByteList::from_vec(self.copies.dump),
+            dump: Dump::of(self.copies.dump),
             blocks,
         }
     }

@@ -1,6 +1,7 @@
 //! What a run reports.
 use fanout_group::CpuLogList;
-use frame_view::{ByteList, ItemList, Packets};
+use frame_view::{ItemList, Packets};
+use reader_walk::Dump;
 use ring_model::Notes;
 use ring_words::Pending;
 use tp_layout::Block;
@@ -22,7 +23,7 @@ pub struct MemberReport {
     /// The packets that its reader took out of retired blocks.
     pub walked: Packets,
     /// The retired blocks as bytes, if they were asked for.
-    pub dump: ByteList,
+    pub dump: Dump,
     /// The number of blocks that its reader walked.
     pub blocks: u64,
     /// What its ring held when it was finished, if feeders and readers had threads of their own;

@@ -1,7 +1,7 @@
 //! The files of a run, saved in a store.
 #![tactic(auto)]
 
-mod byte_pieces;
+mod block_pieces;
 mod members;
 mod names;
 mod planned_file;

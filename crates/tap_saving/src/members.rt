@@ -90,7 +90,7 @@ fn push_files<'a>(
     files.push(PlannedFile::capture(name, &report.walked))?;
     if setup.dump {
         let name = file_name(alloc, &setup.prefix, member, ".blk")?;
-        files.push(PlannedFile::of_bytes(name, report.dump.as_slice()))?;
+        files.push(PlannedFile::of_dump(name, &report.dump))?;
     }
     if let Some(packets) = sent {
         let name = file_name(alloc, &setup.prefix, member, ".tx.pcap")?;

@@ -5,9 +5,10 @@ ghost use Rattle.tap_outside.specs.Seen.{OnlySaves};
 ghost use Rattle.tap_saving.specs.Files.{CanBeOutput};
 ghost use Rattle.tap_saving.specs.inside.Plans.{IsTried};
 
-use crate::byte_pieces::BytePieces;
+use crate::block_pieces::BlockPieces;
 use capture_file::PcapPieces;
 use frame_view::{Memory, Packets};
+use reader_walk::Dump;
 use std::alloc::Global;
 use std::marker::Model;
 use tap_outside::{OutError, Store};
@@ -17,8 +18,8 @@ use tap_outside::{OutError, Store};
 pub(crate) enum Content<'a> {
     /// From packets, of which a capture file is made while it is saved.
     Packets(&'a Packets),
-    /// These are its bytes.
-    Bytes(&'a [u8]),
+    /// From a dump.
+    Blocks(&'a Dump),
 }
 
 /// A file that is to be saved. Contracts see its name and its bytes.
@@ -54,13 +55,13 @@ impl<'a> PlannedFile<'a> {
         }
     }
 
-    /// A file of these bytes.
-    pub(crate) fn of_bytes(name: Vec<u8>, bytes: &'a [u8]) -> PlannedFile<'a>
-        ensures { result ≡ record { name = name.items; bytes = bytes.now } }
+    /// A file of the bytes of a dump.
+    pub(crate) fn of_dump(name: Vec<u8>, dump: &'a Dump) -> PlannedFile<'a>
+        ensures { result ≡ record { name = name.items; bytes = dump.now } }
     {
         PlannedFile {
             name,
-            content: Content::Bytes(bytes),
+            content: Content::Blocks(dump),
         }
     }
 
@@ -73,7 +74,7 @@ impl<'a> PlannedFile<'a> {
         ensures memory { OnErr result (S.seen store.new ≡ S.seen store.old) }
     {
         let saved = match self.content {
-            Content::Bytes(bytes) => store.save_pieces(alloc, &self.name, BytePieces::new(bytes)),
+            Content::Blocks(dump) => store.save_pieces(alloc, &self.name, BlockPieces::new(dump)),
             Content::Packets(packets) => {
                 store.save_pieces(alloc, &self.name, PcapPieces::new(packets))
             }

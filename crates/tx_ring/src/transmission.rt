@@ -10,7 +10,7 @@ ghost use Rattle.tx_ring.specs.Transmission.{first_long, transmitted_of};
 use crate::{SendError, TxRing};
 use frame_view::{Frame, Frames, Memory, Packets};
 use std::alloc::Global;
-use tp_layout::Shape;
+use tp_layout::{RingRequest, Shape};
 
 /// The result of sending frames.
 #[derive(Debug, Drop)]
@@ -38,6 +38,9 @@ pub(crate) struct Transmitter {
 
 /// The fewest bytes of a frame that is sent: an Ethernet header.
 const LEAST: usize = 14;
+
+/// The most bytes of a ring through which a capture is sent: this project's own choice.
+const MOST: u32 = 4_194_304;
 
 impl Transmitter {
     ghost use Rattle.tx_ring.specs.Transmission.{placed_in, sent_once, told_of, with_frame};
@@ -112,8 +115,46 @@ impl Transmitter {
 
 /// Sends frames through a new ring of this shape, in order. Runts are left out. With `skip_bad` a
 /// frame that is longer than what fits into a slot is skipped; without it the first such frame
-/// stops the ring.
+/// stops the ring. What is sent doesn't depend on how many slots there are, so a large ring has
+/// only as many blocks as make 4 MiB: it goes round more often, and takes no more memory than that.
 pub fn transmit_frames(
+    alloc: Global,
+    shape: Shape,
+    skip_bad: bool,
+    frames: &Frames,
+) -> Result<Transmitted, Memory>
+    requires transmit { transmit_fault shape ≡ None }
+    requires few { length frames.now < 2 ^ 54 }
+    ensures { IfOk result (λ sent. sent ≡ transmitted_of (room_of shape) skip_bad frames.now) }
+{
+    send_through(alloc, fewer_blocks(&shape), skip_bad, frames)
+}
+
+/// This shape with at most as many blocks as make 4 MiB.
+fn fewer_blocks(shape: &Shape) -> Shape
+    requires { transmit_fault shape.now ≡ None }
+    ensures valid { transmit_fault result ≡ None }
+    ensures room { room_of result ≡ room_of shape.now }
+{
+    let (block_size, frame_size) = (shape.block_size(), shape.frame_size());
+    let block_nr = shape.block_nr().min(MOST / block_size);
+    let request = RingRequest {
+        block_size,
+        block_nr,
+        frame_size,
+        frame_nr: block_size / frame_size * block_nr,
+        tov: 0,
+        sizeof_priv: 0,
+        features: 0,
+    };
+    match request.check_tx() {
+        Ok(fewer) => fewer,
+        Err(_) => unreachable!(),
+    }
+}
+
+/// Sends frames through a new ring of exactly this shape, as `transmit_frames` does.
+fn send_through(
     alloc: Global,
     shape: Shape,
     skip_bad: bool,

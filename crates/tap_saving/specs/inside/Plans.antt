@@ -1,24 +1,30 @@
 -- Files that are to be saved, and one save.
-use Rattle.std.specs.Prelude.{ℕ, Bool, true, false, List, [], ◌∷◌, map, ⊤}
+use Rattle.std.specs.Prelude.{ℕ, Bool, true, false, List, [], ◌∷◌, ◌++◌, flat_map, map, ⊤}
 use Rattle.capture_file.specs.Output.{output_of}
 use Rattle.tap_outside.specs.Contents.{HoldsFile}
 use Rattle.tap_outside.specs.Counts.{Rose}
 use Rattle.tap_outside.specs.Seen.{StoreSeen}
 use Rattle.tap_saving.specs.Files.{CanBeOutput, File}
 use Rattle.tap_saving.specs.Saves.{IsApart, NoSaveFailed}
+use Rattle.tap_saving.specs.declared.block_pieces.BlockPieces.{BlockPieces}
 use Rattle.tap_saving.specs.declared.planned_file.Content.{Content}
-use Rattle.tap_saving.specs.declared.planned_file.Content.TheVariants.{Bytes, Packets}
+use Rattle.tap_saving.specs.declared.planned_file.Content.TheVariants.{Blocks, Packets}
 use Rattle.tap_saving.specs.declared.planned_file.PlannedFile.TheInside.{Inside}
 
 -- the bytes of a file, by what they come from
 abbrev pub bytes_of : Content → List ℕ
 bytes_of (Packets packets) = output_of packets.now
-bytes_of (Bytes bytes) = bytes.now
+bytes_of (Blocks dump) = dump.now
+
+-- the bytes of a dump that are left to save
+abbrev pub left_of : BlockPieces → List ℕ
+left_of left =
+    left.rest.now ++ (flat_map (λ piece. piece.items) left.pieces.now ++ left.last.now)
 
 -- and whether they can be made
 abbrev pub CanBeMade : Content → Type 0
 CanBeMade (Packets packets) = CanBeOutput packets.now
-CanBeMade (Bytes bytes) = ⊤
+CanBeMade (Blocks dump) = ⊤
 
 -- a planned file: its name and its bytes
 abbrev pub file_of : Inside → File

@@ -6,5 +6,5 @@ abbrev pub invariant-loop-place : goal.invariant-loop-place
 invariant-loop-place l = record {
   full : IsFull l.place-iterator.rest.items;
   walked : l.walked.items ++ packets_at l.place-iterator.rest.items ≡ packets_at l.fn.self;
-  dump : l.dump.items ++ texts_at l.place-iterator.rest.items ≡ texts_at l.fn.self;
+  dump : l.dump ++ texts_at l.place-iterator.rest.items ≡ texts_at l.fn.self;
 }

@@ -8,7 +8,7 @@ use Rattle.tx_ring.specs.declared.transmission.Transmitter.{Transmitter}
 use Rattle.tx_ring.proofs.FedRuns.{ended, few_of, given, starts, told_is}
 use Rattle.tx_ring.proofs.Requests.{some_slots}
 use Rattle.tx_ring.proofs.Runs.{Carries, send_carries}
-use Rattle.tx_ring.proofs.transmission.transmit_frames.Goals as goal
+use Rattle.tx_ring.proofs.transmission.send_through.Goals as goal
 
 pub loop-frame-init : goal.loop-frame-init
 loop-frame-init c = rw (c.in_ok-new.ensures, c.new-2.ensures) (starts c.args.shape c.args.skip_bad)

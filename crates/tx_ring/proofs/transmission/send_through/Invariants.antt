@@ -2,7 +2,7 @@ use Rattle.std.proofs.Common.{take}
 use Rattle.tx_ring.proofs.Runs.{Carries}
 use Rattle.tx_ring.specs.Rings.{room_of}
 use Rattle.tx_ring.specs.Transmission.{requests_of}
-use Rattle.tx_ring.proofs.transmission.transmit_frames.Given as goal
+use Rattle.tx_ring.proofs.transmission.send_through.Given as goal
 
 -- the frames so far were given to the run
 abbrev pub invariant-loop-frame : goal.invariant-loop-frame
