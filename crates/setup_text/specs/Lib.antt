@@ -6,12 +6,10 @@ pub mod Filters
 pub mod KeyFaults
 pub mod KindWords
 pub mod Moments
-pub mod Orders
 pub mod Runnable
 pub mod Schedules
 pub mod SetupWords
 pub mod Setups
 pub mod Sound
 pub mod Values
-pub mod Written
 pub mod FirstFaults

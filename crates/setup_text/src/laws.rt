@@ -1,17 +1,13 @@
 //! Laws of the definitions, each the contract of a function that does nothing.
-ghost use Rattle.std.specs.Prelude.{◌≡◌, ◌<◌, ◌≤◌, ◌+◌, ◌⊎◌, ℕ, List, length, Err, None, Ok};
+ghost use Rattle.std.specs.Prelude.{◌≡◌, ◌<◌, ◌≤◌, ◌+◌, ◌⊎◌, ℕ, List, length, Err};
 ghost use Rattle.text_lines.specs.Lines.{lines_of};
 ghost use Rattle.setup_text.specs.Drafts.{line_after, nothing_said};
 ghost use Rattle.setup_text.specs.FirstFaults.{HasFirstFault, HaveNoFault};
-ghost use Rattle.setup_text.specs.Orders.{AreReordered};
 ghost use Rattle.setup_text.specs.Runnable.{IsRunnable};
-ghost use Rattle.setup_text.specs.Setups.{request_fault, setup_of};
-ghost use Rattle.setup_text.specs.Written.{CanBeWritten, text_of};
+ghost use Rattle.setup_text.specs.Setups.{setup_of};
 ghost use Rattle.setup_text.specs.declared.commands.Command.{Command};
-ghost use Rattle.setup_text.specs.declared.commands.Command.TheVariants.{Make};
 ghost use Rattle.setup_text.specs.declared.setup_error.SetupKind.{SetupKind};
 ghost use Rattle.setup_text.specs.declared.setup_error.SetupKind.TheVariants.{TooLarge};
-ghost use Rattle.setup_text.specs.declared.setups.Setup.{Setup};
 
 use crate::Setup;
 use tp_layout::a_shape_is_sound;
@@ -25,24 +21,6 @@ pub fn the_first_fault_answers()
     ensures no_line { (text : List ℕ) (command : Command) (kind : SetupKind)
         → setup_of text command ≡ Err (record { line = 0; kind = kind })
         → (kind ≡ TooLarge) ⊎ HaveNoFault line_after nothing_said (lines_of text) }
-{}
-
-/// The order of a setup's lines doesn't matter, except that of the cpu lines among themselves: if a
-/// text is accepted, one of at most 1,048,576 bytes with its lines in another such order is the
-/// same setup.
-pub fn lines_may_change_places()
-    ensures { (text other : List ℕ) (steps : List (List (List ℕ))) (command : Command)
-        (setup : Setup) → AreReordered (lines_of text) steps (lines_of other)
-        → length other ≤ 1048576 → setup_of text command ≡ Ok setup
-        → setup_of other command ≡ Ok setup }
-{}
-
-/// A text that is written from a setup, with one line for each value, is read back as that setup,
-/// if the command accepts its ring and its frames.
-pub fn a_written_setup_is_read_back()
-    ensures { (setup : Setup) (command : Command) → CanBeWritten setup
-        → request_fault command setup.request ≡ None → (command ≡ Make → 1 ≤ setup.count)
-        → setup_of (text_of setup) command ≡ Ok setup }
 {}
 
 /// A setup with 1 to 8 CPUs can be run: its ring's shape and its group passed their tests when they

@@ -21,10 +21,7 @@ pub use commands::Command;
 pub use cpu_setups::{CpuSetup, CpuSetupList};
 pub use filters::read_filter;
 pub use jobs::Job;
-pub use laws::{
-    a_setup_with_cpus_can_be_run, a_written_setup_is_read_back, lines_may_change_places,
-    the_first_fault_answers,
-};
+pub use laws::{a_setup_with_cpus_can_be_run, the_first_fault_answers};
 pub use lines::{Line, Schedule};
 pub use moments::read_ticks;
 pub use schedules::read_schedule;
