@@ -16,13 +16,13 @@ use Rattle.reader_pace.proofs.Feeds.{IsOther, feeds_alone}
 use Rattle.reader_pace.proofs.Timelines.{HasLabel, feeds_all, in_order_all, in_order_rises, reads_all, tick_labelled}
 use Rattle.reader_pace.proofs.Timelines.{ticks_all, ticks_ascend}
 
-made_with : (P : List Timed → Type 0) (ticks feeds : List Timed) (reads : Option (List Timed)) (items : List Timed)
+pub made_with : (P : List Timed → Type 0) (ticks feeds : List Timed) (reads : Option (List Timed)) (items : List Timed)
     → ((given : List Timed) → reads ≡ Some given → P (in_order (ticks ++ (feeds ++ given))))
     → timeline_with ticks feeds reads ≡ Some items → P items
 made_with P ticks feeds None items k h = cc
 made_with P ticks feeds (Some given) items k h = subst P (some_same _ items h) (k given refl)
 
-lines_made : (P : List Line → Type 0) (timeline : Option (List Timed)) (lines : List Line)
+pub lines_made : (P : List Line → Type 0) (timeline : Option (List Timed)) (lines : List Line)
     → ((items : List Timed) → timeline ≡ Some items → P (map line_of items)) → lines_of_timeline timeline ≡ Some lines
     → P lines
 lines_made P None lines k h = cc
@@ -37,7 +37,7 @@ timeline_rises judged reader phase from items h =
     (λ given e. in_order_rises (ticks_unless reader.slots judged.tov phase (end_of judged.times)
     ++ (feeds_of judged.times ++ given))) h
 
-timeline_all : (P : Timed → Type 0) (judged : Judged) (reader : Reader) (phase from : ℕ) (items : List Timed)
+pub timeline_all : (P : Timed → Type 0) (judged : Judged) (reader : Reader) (phase from : ℕ) (items : List Timed)
     → ((n : ℕ) → 1 ≤ n → n ≤ ticks_by judged.tov phase (end_of judged.times) → P (tick_at judged.tov phase n))
     → ((moment cpu : ℕ) → P (record { moment = moment; line = line.Feed cpu }))
     → ((moment member : ℕ) → is_stalled reader.stalls moment ≡ false

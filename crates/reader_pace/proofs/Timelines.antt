@@ -81,7 +81,7 @@ reads_unless_all : (P : Timed → Type 0) (stalled : Bool) (moment each members 
 reads_unless_all P true moment each members r = All-nil P
 reads_unless_all P false moment each members r = reads_at_all P moment each members (r refl)
 
-reads_to_all : (P : Timed → Type 0) (moment_of : ℕ → ℕ) (stalls : List Stall) (each members steps : ℕ)
+pub reads_to_all : (P : Timed → Type 0) (moment_of : ℕ → ℕ) (stalls : List Stall) (each members steps : ℕ)
     → ((moment member : ℕ) → is_stalled stalls moment ≡ false → P (record { moment = moment; line = line.Read member }))
     → All P (reads_to moment_of stalls each members steps)
 reads_to_all P moment_of stalls each members zero r = All-nil P
@@ -103,7 +103,7 @@ reads_all P (pace.Blocks count) stalls blocks members from end reads r h =
     (reads_to_all P (block_step count from) stalls 1 members (steps_of (block_steps count) from end) r)
 reads_all P (pace.Poll delay) stalls blocks members from end reads r h = cc
 
-ticks_to_all : (P : Timed → Type 0) (tov phase number : ℕ)
+pub ticks_to_all : (P : Timed → Type 0) (tov phase number : ℕ)
     → ((n : ℕ) → 1 ≤ n → n ≤ number → P (tick_at tov phase n)) → All P (ticks_to tov phase number)
 ticks_to_all P tov phase zero t = All-nil P
 ticks_to_all P tov phase (suc number) t =

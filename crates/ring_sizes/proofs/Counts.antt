@@ -1,8 +1,7 @@
 -- How many ticks and steps come by a moment.
-use Rattle.std.proofs.Common.{◌≡◌, ◌↔◌, ℕ, ◌+◌, ◌-◌, ◌*◌, ◌/◌, ◌<◌, ◌≤◌, ◌^◌, ◌⊎◌, inl, inr, arith}
-use Rattle.std.proofs.Math.Nat.{div-le_self, div-mul-le_self, le-div_iff_mul-le, mul-le-mul_left}
+use Rattle.std.proofs.Common.{◌≡◌, ◌↔◌, ℕ, ◌+◌, ◌-◌, ◌*◌, ◌/◌, ◌<◌, ◌≤◌, ◌^◌, ◌⊎◌, inl, inr, refl, ap, arith}
+use Rattle.std.proofs.Math.Nat.{div-le_self, div-mul-le_self, le-div_iff_mul-le, mul-le-mul_left, mul-le-mul_right}
 use Rattle.std.proofs.lemmas.Nat.{div_below, le-div}
-use Rattle.std.proofs.lemmas.Grind.{common_steps}
 use Rattle.std.proofs.lemmas.Bool.{cases_lt}
 use Rattle.ring_sizes.specs.Schedules.{IsPace, step_moment, steps_before, tick_moment, ticks_by}
 use Rattle.ring_sizes.specs.declared.paces.Pace.{Pace}
@@ -29,29 +28,51 @@ next_tick pace at some = by_case (cases_lt at (tick_moment pace (ticks_by pace a
   by_case (inl h) = h
   by_case (inr h) = let few = (tick_comes pace at (ticks_by pace at + 1) some).1 h in absurd (omega (arith, few))
 
+pub moments_rise : (pace : Pace) (ticks : ℕ) → tick_moment pace (ticks + 1) ≤ tick_moment pace (ticks + 1 + 1)
+moments_rise pace ticks =
+    let more = mul-le-mul_right {m = ticks + 1} {n = ticks + 1 + 1} (pace.tov * 1000000) (omega arith) in omega (arith, more)
+
 -- ---- steps
+
+-- the moment of the step after so many
+abbrev moment_after : Pace → ℕ → ℕ
+moment_after pace steps = pace.start + steps * pace.span / pace.parts
+
+step_is : (pace : Pace) (number steps : ℕ) → number ≡ steps + 1 → step_moment pace number ≡ moment_after pace steps
+step_is pace number steps e =
+    let before : number - 1 ≡ steps = omega (arith, e) in ap (moment_after pace) before
+
+soon_after : (pace : Pace) (at steps : ℕ) → IsPace pace → steps + 1 ≤ steps_before pace at → moment_after pace steps < at
+soon_after pace at steps sound few =
+    let most = (le-div_iff_mul-le {k = pace.span} {x = steps + 1} {y = (at - pace.start) * pace.parts + (pace.span - 1)}
+    sound.span).0 few in
+    let below = div_below (steps * pace.span) pace.parts (at - pace.start) sound.parts (omega (arith, most, sound.span)) in
+    omega (arith, below)
+
+few_before : (pace : Pace) (at steps : ℕ) → IsPace pace → moment_after pace steps < at → steps + 1 ≤ steps_before pace at
+few_before pace at steps sound soon =
+    (le-div_iff_mul-le {k = pace.span} {x = steps + 1} {y = (at - pace.start) * pace.parts + (pace.span - 1)} sound.span).1
+    (by_case (cases_lt (steps * pace.span) ((at - pace.start) * pace.parts))) where
+      by_case : (steps * pace.span < (at - pace.start) * pace.parts) ⊎ ((at - pace.start) * pace.parts ≤ steps * pace.span)
+          → (steps + 1) * pace.span ≤ (at - pace.start) * pace.parts + (pace.span - 1)
+      by_case (inl h) = omega (arith, h)
+      by_case (inr h) =
+          let late = le-div (at - pace.start) (steps * pace.span) pace.parts sound.parts h in absurd (omega
+          (arith, late, soon))
 
 step_soon : (pace : Pace) (at number : ℕ) → IsPace pace → 1 ≤ number → number ≤ steps_before pace at
     → step_moment pace number < at
 step_soon pace at number sound one few =
-    let most = (le-div_iff_mul-le {k = pace.span} {x = number} {y = (at + pace.shift) * pace.parts - 1} sound.span).0 few in
-    let some : 1 * pace.span ≤ number * pace.span = grind (arith, common_steps) in
-    let least = le-div pace.shift (number * pace.span) pace.parts sound.parts (omega (arith, sound.shift, some)) in
-    let below = div_below (number * pace.span) pace.parts (at + pace.shift) sound.parts
-    (omega (arith, most, some, sound.span)) in
-    omega (arith, least, below)
+    let e : number ≡ number - 1 + 1 = omega (arith, one) in
+    let soon = soon_after pace at (number - 1) sound (omega (arith, one, few)) in
+    omega (arith, soon, step_is pace number (number - 1) e)
 
 step_few : (pace : Pace) (at number : ℕ) → IsPace pace → 1 ≤ number → step_moment pace number < at
     → number ≤ steps_before pace at
 step_few pace at number sound one soon =
-    (le-div_iff_mul-le {k = pace.span} {x = number} {y = (at + pace.shift) * pace.parts - 1} sound.span).1
-    (by_case (cases_lt (number * pace.span) ((at + pace.shift) * pace.parts))) where
-      by_case : (number * pace.span < (at + pace.shift) * pace.parts) ⊎ ((at + pace.shift) * pace.parts ≤ number * pace.span)
-          → number * pace.span ≤ (at + pace.shift) * pace.parts - 1
-      by_case (inl h) = omega (arith, h)
-      by_case (inr h) =
-          let late = le-div (at + pace.shift) (number * pace.span) pace.parts sound.parts h in absurd (omega
-          (arith, late, soon))
+    let e : number ≡ number - 1 + 1 = omega (arith, one) in
+    let few = few_before pace at (number - 1) sound (omega (arith, soon, step_is pace number (number - 1) e)) in
+    omega (arith, few, e)
 
 pub step_comes : (pace : Pace) (at number : ℕ) → IsPace pace → 1 ≤ number
     → (number ≤ steps_before pace at) ↔ (step_moment pace number < at)
@@ -90,37 +111,46 @@ same_steps pace before at sound later early = by_case (cases_lt (steps_before pa
 
 -- ---- numbers are small
 
-small_quotient : (n parts span : ℕ) → 0 < span → parts ≤ span → (n * parts - 1) / span < n + 1
-small_quotient n parts span some slow =
-    let most : n * parts ≤ n * span = mul-le-mul_left n slow in
-    div_below (n * parts - 1) span (n + 1) some (omega (arith, most, some))
+small_quotient : (n parts span : ℕ) → 0 < span → parts ≤ 8 * span → (n * parts + (span - 1)) / span < 8 * n + 1
+small_quotient n parts span some quick =
+    let most : n * parts ≤ n * (8 * span) = mul-le-mul_left n quick in
+    div_below (n * parts + (span - 1)) span (8 * n + 1) some (omega (arith, most, some))
 
-pub steps_small : (pace : Pace) (at : ℕ) → IsPace pace → steps_before pace at < at + pace.shift + 1
-steps_small pace at sound = small_quotient (at + pace.shift) pace.parts pace.span sound.span sound.slow
-
-shift_small : (pace : Pace) → IsPace pace → pace.shift ≤ pace.span
-shift_small pace sound =
-    let more : pace.shift * 1 ≤ pace.shift * pace.parts = mul-le-mul_left pace.shift sound.parts in
-    omega (arith, more, sound.shift)
-
-pub steps_fit : (pace : Pace) (at : ℕ) → IsPace pace → at < 2 ^ 53 → steps_before pace at < 2 ^ 61
+pub steps_fit : (pace : Pace) (at : ℕ) → IsPace pace → at ≤ 2 ^ 53 → steps_before pace at < 2 ^ 61
 steps_fit pace at sound early =
-    omega (arith, early, sound.brief, shift_small pace sound, steps_small pace at sound)
+    let small = small_quotient (at - pace.start) pace.parts pace.span sound.span sound.quick in
+    omega (arith, early, small)
 
-pub step_fits : (pace : Pace) (at : ℕ) → IsPace pace → at < 2 ^ 53 → step_moment pace (steps_before pace at + 1) < 2 ^ 64
+moment_below : (n steps parts span : ℕ) → 0 < span → 0 < parts → steps * span ≤ n * parts + (span - 1)
+    → steps * span / parts < n + span
+moment_below n steps parts span some others most =
+    let more : span * 1 ≤ span * parts = mul-le-mul_left span others in
+    div_below (steps * span) parts (n + span) others (omega (arith, most, more, some))
+
+pub step_fits : (pace : Pace) (at : ℕ) → IsPace pace → at ≤ 2 ^ 53 → step_moment pace (steps_before pace at + 1) < 2 ^ 64
 step_fits pace at sound early =
-    let most = (le-div_iff_mul-le {k = pace.span} {x = steps_before pace at} {y = (at + pace.shift) * pace.parts - 1}
+    let steps = steps_before pace at in
+    let most = (le-div_iff_mul-le {k = pace.span} {x = steps} {y = (at - pace.start) * pace.parts + (pace.span - 1)}
     sound.span).0 (omega arith) in
-    let span : pace.span * 1 ≤ pace.span * pace.parts = mul-le-mul_left pace.span sound.parts in
-    let below = div_below ((steps_before pace at + 1) * pace.span) pace.parts (at + pace.shift + pace.span + 1) sound.parts
-    (omega (arith, most, span, sound.parts)) in
-    omega (arith, below, early, sound.brief, shift_small pace sound)
+    let below = moment_below (at - pace.start) steps pace.parts pace.span sound.span sound.parts most in
+    omega (arith, below, early, sound.brief, sound.late, step_is pace (steps + 1) steps refl)
 
-pub tick_small : (pace : Pace) (at : ℕ) → at < 2 ^ 53 → pace.phase < 2 ^ 32 → ticks_by pace at * pace.tov < 2 ^ 54
+pub tick_small : (pace : Pace) (at : ℕ) → at ≤ 2 ^ 53 → pace.phase < 2 ^ 32 → ticks_by pace at * pace.tov < 2 ^ 54
 tick_small pace at early phase =
     let here = div-mul-le_self (at + pace.phase * 1000000) (pace.tov * 1000000) in omega (arith, here, early, phase)
 
-pub ticks_few : (pace : Pace) (at : ℕ) → IsPace pace → at < 2 ^ 53 → ticks_by pace at < 2 ^ 54
+pub ticks_few : (pace : Pace) (at : ℕ) → IsPace pace → at ≤ 2 ^ 53 → ticks_by pace at < 2 ^ 54
 ticks_few pace at sound early =
     let few = div-le_self (at + pace.phase * 1000000) (pace.tov * 1000000) in
     omega (arith, few, early, sound.phase, sound.short)
+
+-- ---- steps up to a moment
+
+pub step_rises : (pace : Pace) (before number : ℕ) → 0 < pace.parts → before ≤ number
+    → step_moment pace before ≤ step_moment pace number
+step_rises pace before number some later =
+    let more = mul-le-mul_right {m = before - 1} {n = number - 1} pace.span (omega (arith, later)) in
+    let below = div-mul-le_self ((before - 1) * pace.span) pace.parts in
+    let rises = le-div ((before - 1) * pace.span / pace.parts) ((number - 1) * pace.span) pace.parts some
+    (omega (arith, below, more)) in
+    omega (arith, rises)

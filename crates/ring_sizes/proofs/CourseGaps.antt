@@ -6,8 +6,8 @@ use Rattle.std.proofs.lemmas.Grind.{common_steps}
 use Rattle.std.proofs.lemmas.List.{drop_all}
 use Rattle.ring_sizes.specs.Courses.{IsSmall, all_went_on, over_time, went_on}
 use Rattle.ring_sizes.specs.Rests.{course_read}
-use Rattle.ring_sizes.specs.Schedules.{awake, beats, beats_between, schedule_from, step_event, steps_before, steps_from}
-use Rattle.ring_sizes.specs.Schedules.{tick_moment}
+use Rattle.ring_sizes.specs.Schedules.{awake, beats, beats_between, beats_to, schedule_from, step_event, steps_before}
+use Rattle.ring_sizes.specs.Schedules.{steps_from, tick_moment}
 use Rattle.ring_sizes.specs.declared.courses.Course.{Course}
 use Rattle.ring_sizes.specs.declared.events.Event.{Event}
 use Rattle.ring_sizes.specs.declared.events.Event.TheVariants.{Packet, Tick, Read, ReadAll}
@@ -21,7 +21,7 @@ module _ (room blocks tov : ℕ) where
   abbrev run : List Event → Course → Course
   run events course = all_went_on room blocks tov events course
 
-  run_append : (events more : List Event) (course : Course) → run (events ++ more) course ≡ run more (run events course)
+  pub run_append : (events more : List Event) (course : Course) → run (events ++ more) course ≡ run more (run events course)
   run_append [] more course = refl
   run_append (event ∷ events) more course = run_append events more (went_on room blocks tov event course)
 
@@ -104,31 +104,33 @@ module _ (room blocks : ℕ) (stalls : List Stall) (pace : Pace) where
       ∙ goes
 
   -- the next frame
-  pub frame_goes : (since at : ℕ) (arrivals : List Arrival) (index : ℕ) (default : Arrival) (course rested later end : Course)
+  pub frame_goes : (end since at : ℕ) (arrivals : List Arrival) (index : ℕ) (default : Arrival)
+      (course rested later total : Course)
       → index < length arrivals → at ≡ max since (get_or arrivals index default).at
       → rested ≡ go (beats_between stalls pace since at) course
       → later ≡ went_on room blocks pace.tov (Packet (get_or arrivals index default).need) rested
-      → go (schedule_from stalls pace since (drop index arrivals)) course ≡ end
-      → go (schedule_from stalls pace at (drop (index + 1) arrivals)) later ≡ end
-  frame_goes since at arrivals index default course rested later end inside is was next whole =
+      → go (schedule_from stalls pace end since (drop index arrivals)) course ≡ total
+      → go (schedule_from stalls pace end at (drop (index + 1) arrivals)) later ≡ total
+  frame_goes end since at arrivals index default course rested later total inside is was next whole =
       let arrival = get_or arrivals index default in
       let rest = drop (index + 1) arrivals in
       let head : drop index arrivals ≡ arrival ∷ rest = rw add-one (drop-cons arrivals index default inside) in
-      ap (go (schedule_from stalls pace at rest)) (next ∙ ap (went_on room blocks pace.tov (Packet arrival.need)) was)
+      ap (go (schedule_from stalls pace end at rest)) (next ∙ ap (went_on room blocks pace.tov (Packet arrival.need)) was)
       ∙ sym (run_append room blocks pace.tov (beats_between stalls pace since at)
-      (Packet arrival.need ∷ schedule_from stalls pace at rest) course)
-      ∙ ap (λ (n : ℕ). go (beats_between stalls pace since n ++ Packet arrival.need ∷ schedule_from stalls pace n rest) course)
-      is
-      ∙ ap (λ (left : List Arrival). go (schedule_from stalls pace since left) course) (sym head)
+      (Packet arrival.need ∷ schedule_from stalls pace end at rest) course)
+      ∙ ap (λ (n : ℕ). go (beats_between stalls pace since n ++ Packet arrival.need ∷ schedule_from stalls pace end n rest)
+      course) is
+      ∙ ap (λ (left : List Arrival). go (schedule_from stalls pace end since left) course) (sym head)
       ∙ whole
 
-pub last_goes : (room blocks : ℕ) (stalls : List Stall) (pace : Pace) (at : ℕ) (arrivals : List Arrival) (index : ℕ)
-    (course end : Course) → length arrivals ≤ index
-    → all_went_on room blocks pace.tov (schedule_from stalls pace at (drop index arrivals)) course ≡ end → course ≡ end
-last_goes room blocks stalls pace at arrivals index course end behind goes =
-    ap (λ (left : List Arrival). all_went_on room blocks pace.tov (schedule_from stalls pace at left) course)
-    (sym (drop_all index arrivals behind))
-    ∙ goes
+  -- what comes after the last frame
+  pub last_goes : (end at : ℕ) (arrivals : List Arrival) (index : ℕ) (course later total : Course) → length arrivals ≤ index
+      → later ≡ go (beats_to stalls pace at end) course
+      → go (schedule_from stalls pace end at (drop index arrivals)) course ≡ total → later ≡ total
+  last_goes end at arrivals index course later total behind was goes =
+      was
+      ∙ ap (λ (left : List Arrival). go (schedule_from stalls pace end at left) course) (sym (drop_all index arrivals behind))
+      ∙ goes
 
 pub read_small : (bound : ℕ) (takes_all : Bool) (steps : ℕ) (course : Course) → IsSmall bound course
     → IsSmall bound (course_read takes_all steps course)

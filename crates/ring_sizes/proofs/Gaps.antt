@@ -6,14 +6,14 @@ use Rattle.std.proofs.Math.Nat.{mul-le-mul_right}
 use Rattle.std.proofs.lemmas.Grind.{common_steps}
 use Rattle.ring_sizes.specs.Passes.{passed_all, ticked, with_next}
 use Rattle.ring_sizes.specs.Rests.{IsTicked, after_last, after_next, read_on, read_to, rested}
-use Rattle.ring_sizes.specs.Schedules.{IsPace, awake, beats, beats_between, steps_before}
+use Rattle.ring_sizes.specs.Schedules.{IsPace, awake, beats, steps_before}
 use Rattle.ring_sizes.specs.Schedules.{steps_from, tick_moment, ticks_by}
 use Rattle.ring_sizes.specs.declared.events.Event.{Event}
 use Rattle.ring_sizes.specs.declared.events.Event.TheVariants.{Tick}
 use Rattle.ring_sizes.specs.declared.paces.Pace.{Pace}
 use Rattle.ring_sizes.specs.declared.paces.Stall.{Stall}
 use Rattle.ring_sizes.specs.declared.sizes.Pass.{Pass}
-use Rattle.ring_sizes.proofs.Counts.{next_tick, steps_rise, tick_comes}
+use Rattle.ring_sizes.proofs.Counts.{moments_rise, next_tick, steps_rise, tick_comes}
 use Rattle.ring_sizes.proofs.ReaderSteps.{awake_join, passed_append, reads, reads_join}
 
 -- ---- ticks of an empty block
@@ -27,7 +27,7 @@ due_by tov ms pass true empty e f = absurd (grind (arith, common_steps, e))
 due_by tov ms pass false true e f = refl
 due_by tov ms pass false false e f = absurd (grind (arith, common_steps, f))
 
-not_early : (ms deadline : ℕ) (early : Bool) → nat_lt ms deadline ≡ early → deadline ≤ ms → early ≡ false
+pub not_early : (ms deadline : ℕ) (early : Bool) → nat_lt ms deadline ≡ early → deadline ≤ ms → early ≡ false
 not_early ms deadline true e due = absurd (grind (arith, common_steps))
 not_early ms deadline false e due = refl
 
@@ -87,10 +87,6 @@ module _ (room : ℕ) (stalls : List Stall) (pace : Pace) (sound : IsPace pace) 
       ∙ ap (λ (pass : Pass). run (beats stalls pace more (ticks + 1) next at) (ticked pace.tov ((ticks + 1) * pace.tov) pass))
       (steps_run since next pass)
 
-  moments_rise : (ticks : ℕ) → tick_moment pace (ticks + 1) ≤ tick_moment pace (ticks + 1 + 1)
-  moments_rise ticks =
-      let more = mul-le-mul_right {m = ticks + 1} {n = ticks + 1 + 1} (pace.tov * 1000000) (omega arith) in omega (arith, more)
-
   -- ticks of an empty block, from a tick on
   rests : (more ticks last since at : ℕ) (pass : Pass) → last ≡ ticks + more → pass.empty ≡ true
       → pass.clock ≡ ticks * pace.tov → pass.deadline ≡ ticks * pace.tov + pace.tov
@@ -111,7 +107,7 @@ module _ (room : ℕ) (stalls : List Stall) (pace : Pace) (sound : IsPace pace) 
       ∙ ap (run (beats stalls pace more (ticks + 1) next at))
       (due_empty pace.tov ((ticks + 1) * pace.tov) (read (upto since) (upto next) pass) empty due)
       ∙ rests more (ticks + 1) last next at (read (upto since) (upto next) (at_tick (ticks + 1) pass)) (omega (arith, e)) empty
-      refl refl (moments_rise ticks) nexts
+      refl refl (moments_rise pace ticks) nexts
       (λ some. subst (λ (n : ℕ). tick_moment pace n ≤ at) (let f : ticks + suc more ≡ ticks + 1 + more = omega arith in f)
       (by (omega arith)))
       ∙ join (upto since) (upto next) (upto at) (at_tick last pass) (steps_rise pace since next sound soon)
@@ -155,12 +151,12 @@ module _ (room : ℕ) (stalls : List Stall) (pace : Pace) (sound : IsPace pace) 
   -- more ticks come: the next one and the rest
   ticks_run : (more last since at : ℕ) (pass : Pass) (empty : Bool) → empty ≡ pass.empty
       → IsTicked pace (ticks_by pace since) pass
-      → last ≡ ticks_by pace since + suc more → last ≡ ticks_by pace at → since ≤ at
+      → last ≡ ticks_by pace since + suc more → last ≤ ticks_by pace at
       → run (beats stalls pace (suc more) (ticks_by pace since) since at) pass
       ≡ cond empty (read (upto since) (upto at) (tick last pass))
       (read (upto (tick_moment pace (ticks_by pace since + 1))) (upto at)
-      (after_last pace (ticks_by pace since + 1) last (after_next stalls pace since pass)))
-  ticks_run more last since at pass empty same h e f later =
+      (after_last pace (ticks_by pace since + 1) last (after_next stalls pace (ticks_by pace since) (upto since) pass)))
+  ticks_run more last since at pass empty same h e f =
       let ticks = ticks_by pace since in
       let next = tick_moment pace (ticks + 1) in
       let soon : since ≤ next = let s = next_tick pace since sound.tov in omega (arith, s) in
@@ -172,7 +168,7 @@ module _ (room : ℕ) (stalls : List Stall) (pace : Pace) (sound : IsPace pace) 
       (not_early ((ticks + 1) * pace.tov) pass.deadline (nat_lt ((ticks + 1) * pace.tov) pass.deadline) refl due) refl in
       let rest : run (beats stalls pace (suc more) ticks since at) pass ≡ read (upto next) (upto at) (at_tick last first) =
       head_run more ticks since at pass
-      ∙ rests more (ticks + 1) last next at first (omega (arith, e)) opened.0 opened.1 opened.2 (moments_rise ticks) by
+      ∙ rests more (ticks + 1) last next at first (omega (arith, e)) opened.0 opened.1 opened.2 (moments_rise pace ticks) by
       (λ some. (tick_comes pace at (ticks + 1 + more) sound.tov).0 (omega (arith, e, f))) in
       by_empty empty same rest due soon by opened where
         by_empty : (empty : Bool) → empty ≡ pass.empty
@@ -185,7 +181,8 @@ module _ (room : ℕ) (stalls : List Stall) (pace : Pace) (sound : IsPace pace) 
             ≡ (ticks + 1) * pace.tov + pace.tov)
             → run (beats stalls pace (suc more) ticks since at) pass
             ≡ cond empty (read (upto since) (upto at) (tick last pass))
-            (read (upto next) (upto at) (after_last pace (ticks + 1) last (after_next stalls pace since pass)))
+            (read (upto next) (upto at) (after_last pace (ticks + 1) last
+            (after_next stalls pace (ticks_by pace since) (upto since) pass)))
         by_empty true same rest due soon by opened =
             let ticks = ticks_by pace since in
             let next = tick_moment pace (ticks + 1) in
@@ -206,36 +203,33 @@ module _ (room : ℕ) (stalls : List Stall) (pace : Pace) (sound : IsPace pace) 
             (sym (last_empty (ticks + 1) last first (nat_lt (ticks + 1) last) refl (omega
             (arith, e)) opened.0 opened.1 opened.2))
 
-  gap_by : (more since at : ℕ) (pass : Pass) (empty few : Bool) → empty ≡ pass.empty
-      → nat_le (ticks_by pace at) (ticks_by pace since) ≡ few
-      → more ≡ ticks_by pace at - ticks_by pace since → IsTicked pace (ticks_by pace since) pass → since ≤ at
+  gap_by : (more last since at : ℕ) (pass : Pass) (empty few : Bool) → empty ≡ pass.empty
+      → nat_le last (ticks_by pace since) ≡ few
+      → more ≡ last - ticks_by pace since → IsTicked pace (ticks_by pace since) pass → last ≤ ticks_by pace at
       → run (beats stalls pace more (ticks_by pace since) since at) pass
       ≡ cond (empty || few)
-      (read (upto since) (upto at) (after_last pace (ticks_by pace since) (ticks_by pace at) pass))
+      (read (upto since) (upto at) (after_last pace (ticks_by pace since) last pass))
       (read (upto (tick_moment pace (ticks_by pace since + 1))) (upto at)
-      (after_last pace (ticks_by pace since + 1) (ticks_by pace at) (after_next stalls pace since pass)))
-  gap_by zero since at pass true few same e m h later =
+      (after_last pace (ticks_by pace since + 1) last (after_next stalls pace (ticks_by pace since) (upto since) pass)))
+  gap_by zero last since at pass true few same e m h by =
       steps_run since at pass
-      ∙ ap (λ (more : Bool). read (upto since) (upto at) (cond more (tick (ticks_by pace at) pass) pass))
-      (none_later (ticks_by pace since) (ticks_by pace at) (nat_lt (ticks_by pace since) (ticks_by pace at)) refl (omega
-      (arith, m)))
-  gap_by zero since at pass false true same e m h later =
+      ∙ ap (λ (more : Bool). read (upto since) (upto at) (cond more (tick last pass) pass))
+      (none_later (ticks_by pace since) last (nat_lt (ticks_by pace since) last) refl (omega (arith, m)))
+  gap_by zero last since at pass false true same e m h by =
       steps_run since at pass
-      ∙ ap (λ (more : Bool). read (upto since) (upto at) (cond more (tick (ticks_by pace at) pass) pass))
-      (none_later (ticks_by pace since) (ticks_by pace at) (nat_lt (ticks_by pace since) (ticks_by pace at)) refl (omega
-      (arith, m)))
-  gap_by zero since at pass false false same e m h later = absurd (grind (arith, common_steps))
-  gap_by (suc more) since at pass true few same e m h later =
-      ticks_run more (ticks_by pace at) since at pass true same h (omega (arith, m)) refl later
-      ∙ ap (λ (some : Bool). read (upto since) (upto at) (cond some (tick (ticks_by pace at) pass) pass))
-      (some_later (ticks_by pace since) (ticks_by pace at) (nat_lt (ticks_by pace since) (ticks_by pace at)) refl
-      (omega (arith, m)))
-  gap_by (suc more) since at pass false true same e m h later = absurd (grind (arith, common_steps))
-  gap_by (suc more) since at pass false false same e m h later =
-      ticks_run more (ticks_by pace at) since at pass false same h (omega (arith, m)) refl later
+      ∙ ap (λ (more : Bool). read (upto since) (upto at) (cond more (tick last pass) pass))
+      (none_later (ticks_by pace since) last (nat_lt (ticks_by pace since) last) refl (omega (arith, m)))
+  gap_by zero last since at pass false false same e m h by = absurd (grind (arith, common_steps))
+  gap_by (suc more) last since at pass true few same e m h by =
+      ticks_run more last since at pass true same h (omega (arith, m)) by
+      ∙ ap (λ (some : Bool). read (upto since) (upto at) (cond some (tick last pass) pass))
+      (some_later (ticks_by pace since) last (nat_lt (ticks_by pace since) last) refl (omega (arith, m)))
+  gap_by (suc more) last since at pass false true same e m h by = absurd (grind (arith, common_steps))
+  gap_by (suc more) last since at pass false false same e m h by =
+      ticks_run more last since at pass false same h (omega (arith, m)) by
 
-  pub gap : (since at : ℕ) (pass : Pass) → IsTicked pace (ticks_by pace since) pass → since ≤ at
-      → run (beats_between stalls pace since at) pass ≡ rested stalls pace since at pass
-  gap since at pass h later =
-      gap_by (ticks_by pace at - ticks_by pace since) since at pass pass.empty
-      (nat_le (ticks_by pace at) (ticks_by pace since)) refl refl refl h later
+  pub gap : (last since at : ℕ) (pass : Pass) → IsTicked pace (ticks_by pace since) pass → last ≤ ticks_by pace at
+      → run (beats stalls pace (last - ticks_by pace since) (ticks_by pace since) since at) pass
+      ≡ rested stalls pace (ticks_by pace since) last (upto since) (upto at) pass
+  gap last since at pass h by =
+      gap_by (last - ticks_by pace since) last since at pass pass.empty (nat_le last (ticks_by pace since)) refl refl refl h by

@@ -11,5 +11,7 @@ pub mod ReaderSteps
 pub mod Gaps
 pub mod Still
 pub mod Frames
+pub mod Stalls
 pub mod Worsts
 pub mod CourseGaps
+pub mod CourseRests

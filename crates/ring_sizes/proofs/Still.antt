@@ -12,19 +12,18 @@ use Rattle.ring_sizes.specs.declared.paces.Pace.{Pace}
 use Rattle.ring_sizes.specs.declared.paces.Stall.{Stall}
 use Rattle.ring_sizes.specs.declared.sizes.Pass.{Pass}
 use Rattle.ring_sizes.specs.declared.timed.Place.{Place}
-use Rattle.ring_sizes.proofs.Counts.{same_steps, same_ticks, ticks_rise}
+use Rattle.ring_sizes.proofs.Counts.{same_steps, same_ticks}
 use Rattle.ring_sizes.proofs.Within.{ticked_within, weaker}
 
-pub same_place : (pace : Pace) (place : Place) (at : ℕ) → IsPace pace → place ≡ place_at pace place.at → place.at ≤ at
-    → at < place.tick_at → at ≤ place.step_at → record place { at = at } ≡ place_at pace at
-same_place pace place at sound e later tick step =
-    let since = place.at in
+pub same_place : (pace : Pace) (place : Place) (since at : ℕ) → IsPace pace → place ≡ place_at pace since → since ≤ at
+    → at < place.tick_at → at ≤ place.step_at → place ≡ place_at pace at
+same_place pace place since at sound e later tick step =
     let next = ap (λ (p : Place). p.tick_at) e in
     let then = ap (λ (p : Place). p.step_at) e in
     let ticks = same_ticks pace since at sound.tov later (omega (arith, tick, next)) in
     let steps = same_steps pace since at sound later (omega (arith, step, then)) in
-    ap (λ (p : Place). record p { at = at }) e
-    ∙ ap (λ (n : ℕ). record (place_at pace since) { at = at; ticks = n; tick_at = tick_moment pace (n + 1) }) (sym ticks)
+    e
+    ∙ ap (λ (n : ℕ). record (place_at pace since) { ticks = n; tick_at = tick_moment pace (n + 1) }) (sym ticks)
     ∙ ap (λ (n : ℕ). record (place_at pace at) { steps = n; step_at = step_moment pace (n + 1) }) (sym steps)
 
 none_read : (takes_all : Bool) (pass : Pass) → pass ≡ read_on takes_all 0 pass
@@ -47,23 +46,31 @@ rested_by : (stalls : List Stall) (pace : Pace) (since at : ℕ) (pass : Pass) (
     (read_to stalls pace (steps_before pace since) (steps_before pace at)
     (cond more (ticked pace.tov (ticks_by pace at * pace.tov) pass) pass))
     (read_to stalls pace (steps_before pace (tick_moment pace (ticks_by pace since + 1))) (steps_before pace at)
-    (after_last pace (ticks_by pace since + 1) (ticks_by pace at) (after_next stalls pace since pass)))
+    (after_last pace (ticks_by pace since + 1) (ticks_by pace at)
+    (after_next stalls pace (ticks_by pace since) (steps_before pace since) pass)))
 rested_by stalls pace since at pass empty few true e f ticks steps = absurd (grind (arith, common_steps))
 rested_by stalls pace since at pass empty false false e f ticks steps = absurd (grind (arith, common_steps))
 rested_by stalls pace since at pass true true false e f ticks steps = still stalls pace since at pass steps
 rested_by stalls pace since at pass false true false e f ticks steps = still stalls pace since at pass steps
 
-pub same_rest : (stalls : List Stall) (pace : Pace) (place : Place) (at : ℕ) (pass : Pass) → IsPace pace
-    → place ≡ place_at pace place.at → place.at ≤ at → at < place.tick_at → at ≤ place.step_at
-    → pass ≡ rested stalls pace place.at at pass
-same_rest stalls pace place at pass sound e later tick step =
-    let since = place.at in
+pub same_rest : (stalls : List Stall) (pace : Pace) (place : Place) (since at : ℕ) (pass : Pass) → IsPace pace
+    → place ≡ place_at pace since → since ≤ at → at < place.tick_at → at ≤ place.step_at
+    → pass ≡ rested stalls pace (ticks_by pace since) (ticks_by pace at) (steps_before pace since) (steps_before pace at) pass
+same_rest stalls pace place since at pass sound e later tick step =
     let next = ap (λ (p : Place). p.tick_at) e in
     let then = ap (λ (p : Place). p.step_at) e in
     let ticks = same_ticks pace since at sound.tov later (omega (arith, tick, next)) in
     let steps = same_steps pace since at sound later (omega (arith, step, then)) in
     rested_by stalls pace since at pass pass.empty (nat_le (ticks_by pace at) (ticks_by pace since))
     (nat_lt (ticks_by pace since) (ticks_by pace at)) refl refl ticks steps
+
+pub rested_at : (stalls : List Stall) (pace : Pace) (place next : Place) (since at : ℕ) (pass : Pass)
+    → place ≡ place_at pace since → next ≡ place_at pace at
+    → rested stalls pace place.ticks next.ticks place.steps next.steps pass
+    ≡ rested stalls pace (ticks_by pace since) (ticks_by pace at) (steps_before pace since) (steps_before pace at) pass
+rested_at stalls pace place next since at pass e f =
+    ap (λ (p : Place). rested stalls pace p.ticks next.ticks p.steps next.steps pass) e
+    ∙ ap (λ (p : Place). rested stalls pace (ticks_by pace since) p.ticks (steps_before pace since) p.steps pass) f
 
 -- ---- numbers stay small
 
@@ -90,24 +97,22 @@ pub last_within : (bound : ℕ) (pace : Pace) (next last : ℕ) (pass : Pass) �
     → IsWithin (bound + 1) (after_last pace next last pass)
 last_within bound pace next last pass h = within_last bound pace next last pass (nat_lt next last) h
 
-pub rested_within : (bound : ℕ) (stalls : List Stall) (pace : Pace) (since at : ℕ) (pass : Pass) → IsWithin bound pass
-    → IsWithin (bound + 2) (rested stalls pace since at pass)
-rested_within bound stalls pace since at pass h =
-    by_case (pass.empty || nat_le (ticks_by pace at) (ticks_by pace since)) where
-      by_case : (still : Bool)
-          → IsWithin (bound + 2) (cond still
-          (read_to stalls pace (steps_before pace since) (steps_before pace at)
-          (after_last pace (ticks_by pace since) (ticks_by pace at) pass))
-          (read_to stalls pace (steps_before pace (tick_moment pace (ticks_by pace since + 1))) (steps_before pace at)
-          (after_last pace (ticks_by pace since + 1) (ticks_by pace at) (after_next stalls pace since pass))))
-      by_case true =
-          weaker (bound + 1) (bound + 2) _ (omega arith)
-          (within_read (bound + 1) pace.takes_all _ _ (last_within bound pace (ticks_by pace since) (ticks_by pace at) pass h))
-      by_case false =
-          weaker (bound + 1 + 1) (bound + 2) _ (omega arith)
-          (within_read (bound + 1 + 1) pace.takes_all _ _
-          (last_within (bound + 1) pace (ticks_by pace since + 1) (ticks_by pace at) _
-          (ticked_within bound pace.tov _ _ (within_read bound pace.takes_all _ pass h))))
+pub rested_within : (bound : ℕ) (stalls : List Stall) (pace : Pace) (ticks last from to : ℕ) (pass : Pass)
+    → IsWithin bound pass → IsWithin (bound + 2) (rested stalls pace ticks last from to pass)
+rested_within bound stalls pace ticks last from to pass h = by_case (pass.empty || nat_le last ticks) where
+  by_case : (still : Bool)
+      → IsWithin (bound + 2) (cond still
+      (read_to stalls pace from to (after_last pace ticks last pass))
+      (read_to stalls pace (steps_before pace (tick_moment pace (ticks + 1))) to
+      (after_last pace (ticks + 1) last (after_next stalls pace ticks from pass))))
+  by_case true =
+      weaker (bound + 1) (bound + 2) _ (omega arith)
+      (within_read (bound + 1) pace.takes_all _ _ (last_within bound pace ticks last pass h))
+  by_case false =
+      weaker (bound + 1 + 1) (bound + 2) _ (omega arith)
+      (within_read (bound + 1 + 1) pace.takes_all _ _
+      (last_within (bound + 1) pace (ticks + 1) last _
+      (ticked_within bound pace.tov _ _ (within_read bound pace.takes_all _ pass h))))
 
 -- ---- the clock
 
@@ -130,35 +135,32 @@ ticked_by pace first last pass true empty due later =
 ticked_by pace first last pass false true due later = record { clock = refl; deadline = omega arith }
 ticked_by pace first last pass false false due later = record { clock = refl; deadline = omega arith }
 
-ticks : (pace : Pace) (first last : ℕ) (pass : Pass) → pass.deadline ≤ first * pace.tov + pace.tov → first ≤ last
+ticked_on : (pace : Pace) (first last : ℕ) (pass : Pass) → pass.deadline ≤ first * pace.tov + pace.tov → first ≤ last
     → IsTicked pace last (ticked pace.tov (last * pace.tov) pass)
-ticks pace first last pass due later =
+ticked_on pace first last pass due later =
     ticked_by pace first last pass (nat_lt (last * pace.tov) pass.deadline) pass.empty due later
 
 last_ticks : (pace : Pace) (next last : ℕ) (pass : Pass) (more : Bool) → nat_lt next last ≡ more → IsTicked pace next pass
     → next ≤ last → IsTicked pace last (cond more (ticked pace.tov (last * pace.tov) pass) pass)
-last_ticks pace next last pass true e h later = ticks pace next last pass h.deadline later
+last_ticks pace next last pass true e h later = ticked_on pace next last pass h.deadline later
 last_ticks pace next last pass false e h later =
     let same : next ≡ last = grind (arith, common_steps) in subst (λ (n : ℕ). IsTicked pace n pass) same h
 
-pub rested_ticked : (stalls : List Stall) (pace : Pace) (since at : ℕ) (pass : Pass) → 0 < pace.tov → since ≤ at
-    → IsTicked pace (ticks_by pace since) pass → IsTicked pace (ticks_by pace at) (rested stalls pace since at pass)
-rested_ticked stalls pace since at pass some later h =
-    by_case pass.empty (nat_le (ticks_by pace at) (ticks_by pace since)) refl where
-      rest : IsTicked pace (ticks_by pace at) (after_last pace (ticks_by pace since) (ticks_by pace at) pass)
-      rest = last_ticks pace (ticks_by pace since) (ticks_by pace at) pass _ refl h (ticks_rise pace since at some later)
+pub rested_ticked : (stalls : List Stall) (pace : Pace) (ticks last from to : ℕ) (pass : Pass) → ticks ≤ last
+    → IsTicked pace ticks pass → IsTicked pace last (rested stalls pace ticks last from to pass)
+rested_ticked stalls pace ticks last from to pass later h = by_case pass.empty (nat_le last ticks) refl where
+  rest : IsTicked pace last (after_last pace ticks last pass)
+  rest = last_ticks pace ticks last pass _ refl h later
 
-      by_case : (empty few : Bool) → nat_le (ticks_by pace at) (ticks_by pace since) ≡ few
-          → IsTicked pace (ticks_by pace at) (cond (empty || few)
-          (read_to stalls pace (steps_before pace since) (steps_before pace at)
-          (after_last pace (ticks_by pace since) (ticks_by pace at) pass))
-          (read_to stalls pace (steps_before pace (tick_moment pace (ticks_by pace since + 1))) (steps_before pace at)
-          (after_last pace (ticks_by pace since + 1) (ticks_by pace at) (after_next stalls pace since pass))))
-      by_case true few e = record { clock = rest.clock; deadline = rest.deadline }
-      by_case false true e = record { clock = rest.clock; deadline = rest.deadline }
-      by_case false false e =
-          let next = ticks pace (ticks_by pace since) (ticks_by pace since + 1)
-          (read_to stalls pace (steps_before pace since) (steps_before pace (tick_moment pace (ticks_by pace since + 1))) pass)
-          h.deadline (omega arith) in
-          let last = last_ticks pace (ticks_by pace since + 1) (ticks_by pace at) _ _ refl next (grind (arith, common_steps)) in
-          record { clock = last.clock; deadline = last.deadline }
+  by_case : (empty few : Bool) → nat_le last ticks ≡ few
+      → IsTicked pace last (cond (empty || few)
+      (read_to stalls pace from to (after_last pace ticks last pass))
+      (read_to stalls pace (steps_before pace (tick_moment pace (ticks + 1))) to
+      (after_last pace (ticks + 1) last (after_next stalls pace ticks from pass))))
+  by_case true few e = record { clock = rest.clock; deadline = rest.deadline }
+  by_case false true e = record { clock = rest.clock; deadline = rest.deadline }
+  by_case false false e =
+      let next = ticked_on pace ticks (ticks + 1)
+      (read_to stalls pace from (steps_before pace (tick_moment pace (ticks + 1))) pass) h.deadline (omega arith) in
+      let end = last_ticks pace (ticks + 1) last _ _ refl next (grind (arith, common_steps)) in
+      record { clock = end.clock; deadline = end.deadline }

@@ -1,95 +1,280 @@
--- The worst beginning of those that were tried.
-use Rattle.std.proofs.Common.{◌≡◌, ◌↔◌, ℕ, ◌+◌, ◌<◌, ◌≤◌, ◌⊎◌, inl, inr, List, refl, sym, subst, arith}
+-- The first of the beginnings that were tried at which a number is best.
+use Rattle.std.proofs.Common.{◌≡◌, ◌↔◌, ℕ, ◌+◌, ◌<◌, ◌≤◌, ◌^◌, ◌⊎◌, inl, inr, Bool, true, false, cond, List, refl}
+use Rattle.std.proofs.Common.{ap, subst, ◌∙◌, arith}
+use Rattle.std.specs.Prelude.{nat_lt}
+use Rattle.std.proofs.lemmas.Grind.{common_steps}
 use Rattle.std.proofs.lemmas.Bool.{cases_lt}
 use Rattle.ring_events.specs.Happenings.{NeverFreezes}
 use Rattle.ring_events.specs.declared.events.Happening.{Happening}
 use Rattle.ring_sizes.specs.EventLists.{events_of}
 use Rattle.ring_sizes.specs.Passes.{first_pass}
-use Rattle.ring_sizes.specs.Phases.{IsFirstBeginning, begun, least_of}
-use Rattle.ring_sizes.specs.Schedules.{schedule}
+use Rattle.ring_sizes.specs.Phases.{AreTried, IsBeginning, IsEarlier, IsFirst, IsFirstFewest, IsFirstMost, IsPhase, begun}
+use Rattle.ring_sizes.specs.Phases.{least_of, or_fewer, or_more}
+use Rattle.ring_sizes.specs.Schedules.{IsPace, schedule_to}
 use Rattle.ring_sizes.specs.declared.paces.Arrival.{Arrival}
 use Rattle.ring_sizes.specs.declared.paces.Pace.{Pace}
 use Rattle.ring_sizes.specs.declared.paces.Stall.{Stall}
-use Rattle.ring_sizes.specs.declared.phases.Worst.{Worst}
+use Rattle.ring_sizes.specs.declared.tries.Reached.{Reached}
+use Rattle.ring_sizes.specs.declared.tries.Tries.{Tries}
 use Rattle.ring_sizes.proofs.Never.{all_grow, threshold_at}
 
--- ---- the beginnings of one phase
+-- what is best is no worse than any, and what is better than the best so far is better than any so far
+pub record IsOrder (Best Better : ℕ → ℕ → Type 0) : Type 0 where
+  pub same : (n : ℕ) → Best n n
+  pub weak : (n m : ℕ) → Better n m → Best n m
+  pub chain : (n m k : ℕ) → Best n m → Best m k → Best n k
+  pub better : (n m k : ℕ) → Better n m → Best m k → Better n k
 
--- of the beginnings so far, where there is one, this is the first that needs most
-pub record IsSoFar (room : ℕ) (stalls : List Stall) (pace : Pace) (phase : ℕ) (arrivals : List Arrival) (tried : ℕ)
-    (worst : Worst) : Type 0 where
-  pub inside : 0 < tried → worst.from < tried
-  pub reached : 0 < tried → worst.least ≡ least_of room stalls (begun pace phase worst.from) arrivals
-  pub most : (from : ℕ) → from < tried → least_of room stalls (begun pace phase from) arrivals ≤ worst.least
-  pub first : (from : ℕ) → from < worst.from → least_of room stalls (begun pace phase from) arrivals < worst.least
-  pub none : tried ≡ 0 → worst.least ≡ 0
+pub most : IsOrder (λ number other. other ≤ number) (λ number other. other < number)
+most = record {
+  same = λ n. omega arith;
+  weak = λ n m h. omega (arith, h);
+  chain = λ n m k h g. omega (arith, h, g);
+  better = λ n m k h g. omega (arith, h, g);
+}
 
--- ---- the phases
+pub fewest : IsOrder (λ number other. number ≤ other) (λ number other. number < other)
+fewest = record {
+  same = λ n. omega arith;
+  weak = λ n m h. omega (arith, h);
+  chain = λ n m k h g. omega (arith, h, g);
+  better = λ n m k h g. omega (arith, h, g);
+}
 
--- of the phases so far, where there is one, this is the first that needs most
-pub record IsPhaseSoFar (room : ℕ) (stalls : List Stall) (pace : Pace) (beginnings : ℕ) (arrivals : List Arrival) (tried : ℕ)
-    (worst : Worst) : Type 0 where
-  pub inside : 0 < tried → worst.phase < tried
-  pub beginning : 0 < tried → IsFirstBeginning room stalls pace worst.phase arrivals beginnings worst
-  pub most : (phase from : ℕ) → phase < tried → from < beginnings
-      → least_of room stalls (begun pace phase from) arrivals ≤ worst.least
-  pub first : (phase from : ℕ) → phase < worst.phase → from < beginnings
-      → least_of room stalls (begun pace phase from) arrivals < worst.least
-  pub none : tried ≡ 0 → (worst.least ≡ 0) × (worst.phase ≡ 0)
+module _ (Best Better : ℕ → ℕ → Type 0) (order : IsOrder Best Better) (number_at : ℕ → ℕ → ℕ) where
+  abbrev Found : Tries → Reached → Type 0
+  Found tries found = IsFirst Best Better tries number_at found
 
-module _ (room : ℕ) (stalls : List Stall) (pace : Pace) (beginnings : ℕ) (arrivals : List Arrival) where
-  abbrev need : ℕ → ℕ → ℕ
-  need phase from = least_of room stalls (begun pace phase from) arrivals
+  -- ---- the beginnings of one phase
 
-  abbrev So : ℕ → Worst → Type 0
-  So tried worst = IsPhaseSoFar room stalls pace beginnings arrivals tried worst
+  abbrev at_phase : Tries → ℕ → Tries
+  at_phase tries end = record tries { phase_end = tries.first_phase + 1; from_end = end }
 
-  abbrev Found : ℕ → Worst → Type 0
-  Found phase worst = IsFirstBeginning room stalls pace phase arrivals beginnings worst
+  only : (tries : Tries) (phase from : ℕ) → IsPhase (at_phase tries (tries.first_from + 1)) phase
+      → IsBeginning (at_phase tries (tries.first_from + 1)) from
+      → number_at tries.first_phase tries.first_from ≡ number_at phase from
+  only tries phase from p f =
+      let a : tries.first_phase ≡ phase = omega (arith, p.0, p.1) in
+      let b : tries.first_from ≡ from = omega (arith, f.0, f.1) in
+      ap (λ (n : ℕ). number_at n tries.first_from) a ∙ ap (number_at phase) b
 
-  phase_most : (tried most other : ℕ) → ((phase from : ℕ) → phase < tried → from < beginnings → need phase from ≤ most)
-      → most ≤ other → ((from : ℕ) → from < beginnings → need tried from ≤ other)
-      → (phase from : ℕ) → phase < tried + 1 → from < beginnings → need phase from ≤ other
-  phase_most tried most other h more last phase from few inside = by_case (cases_lt phase tried) where
-    by_case : (phase < tried) ⊎ (tried ≤ phase) → need phase from ≤ other
-    by_case (inl below) = omega (arith, more, h phase from below inside)
-    by_case (inr above) =
-        let same : tried ≡ phase = omega (arith, above, few) in subst (λ (n : ℕ). need n from ≤ other) same (last from inside)
-
-  pub worse_phase : (tried : ℕ) (worst found : Worst) → So tried worst → Found tried found → found.phase ≡ tried
-      → worst.least < found.least → So (tried + 1) found
-  worse_phase tried worst found h new phase more = record {
-    inside = λ some. omega (arith, phase);
-    beginning = λ some. subst (λ (n : ℕ). Found n found) (sym phase) new;
-    most = phase_most tried worst.least found.least h.most (omega (arith, more)) new.most;
-    first = λ other from few inside.
-        let below = h.most other from (omega (arith, few, phase)) inside in omega (arith, below, more);
-    none = λ none. absurd (omega (arith, none));
-  }
-
-  pub not_worse_phase : (tried : ℕ) (worst found : Worst) → So tried worst → Found tried found → 1 ≤ found.least
-      → found.least ≤ worst.least → So (tried + 1) worst
-  not_worse_phase tried worst found h new some few = record {
-    inside = λ next. let i = h.inside (some_tried (cases_lt 0 tried)) in omega (arith, i);
-    beginning = λ next. h.beginning (some_tried (cases_lt 0 tried));
-    most = phase_most tried worst.least worst.least h.most (omega arith)
-        (λ from inside. let m = new.most from inside in omega (arith, m, few));
-    first = h.first;
-    none = λ none. absurd (omega (arith, none));
+  pub first_try : (tries : Tries) (number : ℕ) → number ≡ number_at tries.first_phase tries.first_from
+      → Found (at_phase tries (tries.first_from + 1))
+      (record { number = number; phase = tries.first_phase; from = tries.first_from })
+  first_try tries number is = record {
+    phase = (omega arith, omega arith);
+    from = (omega arith, omega arith);
+    reached = is;
+    best = λ phase from p f. subst (Best number) (is ∙ only tries phase from p f) (order.same number);
+    first = λ phase from p f earlier. none phase from p f earlier;
   } where
-    some_tried : (0 < tried) ⊎ (tried ≤ 0) → 0 < tried
-    some_tried (inl h) = h
-    some_tried (inr none) = let e = h.none (omega (arith, none)) in absurd (omega (arith, e.0, some, few))
+    none : (phase from : ℕ) → IsPhase (at_phase tries (tries.first_from + 1)) phase
+        → IsBeginning (at_phase tries (tries.first_from + 1)) from
+        → IsEarlier phase from (record { number = number; phase = tries.first_phase; from = tries.first_from })
+        → Better number (number_at phase from)
+    none phase from p f (inl h) = absurd (omega (arith, h, p.0))
+    none phase from p f (inr h) = absurd (omega (arith, h.1, f.0))
 
--- ---- what the pass tells
+  last_try : (tries : Tries) (tried number phase from : ℕ) → number ≡ number_at tries.first_phase tried
+      → IsPhase (at_phase tries (tried + 1)) phase → from < tried + 1 → tried ≤ from → number ≡ number_at phase from
+  last_try tries tried number phase from is p few many =
+      let a : tries.first_phase ≡ phase = omega (arith, p.0, p.1) in
+      let b : tried ≡ from = omega (arith, few, many) in
+      is ∙ ap (λ (n : ℕ). number_at n tried) a ∙ ap (number_at phase) b
 
-pub least_some : (room : ℕ) (stalls : List Stall) (pace : Pace) (arrivals : List Arrival)
-    → 1 ≤ least_of room stalls pace arrivals
-least_some room stalls pace arrivals = all_grow room pace.tov (schedule stalls pace arrivals) (first_pass pace.tov)
+  -- one beginning more, which is better
+  pub better_from : (tries : Tries) (tried number : ℕ) (found : Reached) → Found (at_phase tries tried) found
+      → tries.first_from < tried → number ≡ number_at tries.first_phase tried → Better number found.number
+      → Found (at_phase tries (tried + 1)) (record { number = number; phase = tries.first_phase; from = tried })
+  better_from tries tried number found h some is more = record {
+    phase = (omega arith, omega arith);
+    from = (omega (arith, some), omega arith);
+    reached = is;
+    best = λ phase from p f. best phase from p f (cases_lt from tried);
+    first = λ phase from p f earlier. first phase from p f earlier;
+  } where
+    best : (phase from : ℕ) → IsPhase (at_phase tries (tried + 1)) phase → IsBeginning (at_phase tries (tried + 1)) from
+        → (from < tried) ⊎ (tried ≤ from) → Best number (number_at phase from)
+    best phase from p f (inl few) =
+        order.weak number _ (order.better number found.number _ more (h.best phase from p (f.0, few)))
+    best phase from p f (inr many) =
+        subst (Best number) (last_try tries tried number phase from is p f.1 many) (order.same number)
 
-pub never_at : (room blocks : ℕ) (stalls : List Stall) (pace : Pace) (arrivals : List Arrival) (happenings : List Happening)
-    → events_of happenings ≡ schedule stalls pace arrivals → 1 ≤ blocks
+    first : (phase from : ℕ) → IsPhase (at_phase tries (tried + 1)) phase → IsBeginning (at_phase tries (tried + 1)) from
+        → IsEarlier phase from (record { number = number; phase = tries.first_phase; from = tried })
+        → Better number (number_at phase from)
+    first phase from p f (inl early) = absurd (omega (arith, early, p.0))
+    first phase from p f (inr early) = order.better number found.number _ more (h.best phase from p (f.0, early.1))
+
+  -- one beginning more, which is no better
+  pub same_from : (tries : Tries) (tried number : ℕ) (found : Reached) → Found (at_phase tries tried) found
+      → number ≡ number_at tries.first_phase tried → Best found.number number → Found (at_phase tries (tried + 1)) found
+  same_from tries tried number found h is few = record {
+    phase = h.phase;
+    from = (h.from.0, omega (arith, h.from.1));
+    reached = h.reached;
+    best = λ phase from p f. best phase from p f (cases_lt from tried);
+    first = λ phase from p f earlier. first phase from p f earlier;
+  } where
+    best : (phase from : ℕ) → IsPhase (at_phase tries (tried + 1)) phase → IsBeginning (at_phase tries (tried + 1)) from
+        → (from < tried) ⊎ (tried ≤ from) → Best found.number (number_at phase from)
+    best phase from p f (inl below) = h.best phase from p (f.0, below)
+    best phase from p f (inr many) = subst (Best found.number) (last_try tries tried number phase from is p f.1 many) few
+
+    first : (phase from : ℕ) → IsPhase (at_phase tries (tried + 1)) phase → IsBeginning (at_phase tries (tried + 1)) from
+        → IsEarlier phase from found → Better found.number (number_at phase from)
+    first phase from p f (inl early) = absurd (omega (arith, early, p.0, h.phase.1))
+    first phase from p f (inr early) = h.first phase from p (f.0, omega (arith, early.1, h.from.1)) (inr early)
+
+  pub next_from : (tries : Tries) (tried number : ℕ) (found : Reached) (take : Bool) → Found (at_phase tries tried) found
+      → tries.first_from < tried → number ≡ number_at tries.first_phase tried
+      → (take ≡ true → Better number found.number) → (take ≡ false → Best found.number number)
+      → Found (at_phase tries (tried + 1))
+      (cond take (record { number = number; phase = tries.first_phase; from = tried }) found)
+  next_from tries tried number found true h some is more few = better_from tries tried number found h some is (more refl)
+  next_from tries tried number found false h some is more few = same_from tries tried number found h is (few refl)
+
+  -- ---- the phases
+
+  abbrev below : Tries → ℕ → Tries
+  below tries end = record tries { phase_end = end }
+
+  abbrev only_at : Tries → ℕ → Tries
+  only_at tries phase = record tries { first_phase = phase; phase_end = phase + 1 }
+
+  -- one phase more, which is better
+  pub better_phase : (tries : Tries) (tried : ℕ) (found new : Reached) → Found (below tries tried) found
+      → Found (only_at tries tried) new → tries.first_phase < tried → Better new.number found.number
+      → Found (below tries (tried + 1)) new
+  better_phase tries tried found new h g some more = record {
+    phase = (omega (arith, some, g.phase.0), g.phase.1);
+    from = g.from;
+    reached = g.reached;
+    best = λ phase from p f. best phase from p f (cases_lt phase tried);
+    first = λ phase from p f earlier. first phase from p f earlier (cases_lt phase tried);
+  } where
+    before : (phase from : ℕ) → IsPhase (below tries (tried + 1)) phase → IsBeginning tries from → phase < tried
+        → Better new.number (number_at phase from)
+    before phase from p f early = order.better new.number found.number _ more (h.best phase from (p.0, early) f)
+
+    best : (phase from : ℕ) → IsPhase (below tries (tried + 1)) phase → IsBeginning tries from
+        → (phase < tried) ⊎ (tried ≤ phase) → Best new.number (number_at phase from)
+    best phase from p f (inl early) = order.weak new.number _ (before phase from p f early)
+    best phase from p f (inr late) = g.best phase from (late, p.1) f
+
+    first : (phase from : ℕ) → IsPhase (below tries (tried + 1)) phase → IsBeginning tries from → IsEarlier phase from new
+        → (phase < tried) ⊎ (tried ≤ phase) → Better new.number (number_at phase from)
+    first phase from p f earlier (inl early) = before phase from p f early
+    first phase from p f earlier (inr late) = g.first phase from (late, p.1) f earlier
+
+  -- one phase more, which is no better
+  pub same_phase : (tries : Tries) (tried : ℕ) (found new : Reached) → Found (below tries tried) found
+      → Found (only_at tries tried) new → Best found.number new.number → Found (below tries (tried + 1)) found
+  same_phase tries tried found new h g few = record {
+    phase = (h.phase.0, omega (arith, h.phase.1));
+    from = h.from;
+    reached = h.reached;
+    best = λ phase from p f. best phase from p f (cases_lt phase tried);
+    first = λ phase from p f earlier. first phase from p f earlier;
+  } where
+    best : (phase from : ℕ) → IsPhase (below tries (tried + 1)) phase → IsBeginning tries from
+        → (phase < tried) ⊎ (tried ≤ phase) → Best found.number (number_at phase from)
+    best phase from p f (inl early) = h.best phase from (p.0, early) f
+    best phase from p f (inr late) = order.chain found.number new.number _ few (g.best phase from (late, p.1) f)
+
+    first : (phase from : ℕ) → IsPhase (below tries (tried + 1)) phase → IsBeginning tries from → IsEarlier phase from found
+        → Better found.number (number_at phase from)
+    first phase from p f (inl early) = h.first phase from (p.0, omega (arith, early, h.phase.1)) f (inl early)
+    first phase from p f (inr early) =
+        h.first phase from (p.0, omega (arith, early.0, h.phase.1)) f (inr early)
+
+  pub next_phase : (tries : Tries) (tried : ℕ) (found new : Reached) (take : Bool) → Found (below tries tried) found
+      → Found (only_at tries tried) new → tries.first_phase < tried
+      → (take ≡ true → Better new.number found.number) → (take ≡ false → Best found.number new.number)
+      → Found (below tries (tried + 1)) (cond take new found)
+  next_phase tries tried found new true h g some more few = better_phase tries tried found new h g some (more refl)
+  next_phase tries tried found new false h g some more few = same_phase tries tried found new h g (few refl)
+
+-- ---- the greatest and the least
+
+pub less : (n m : ℕ) → nat_lt n m ≡ true → n < m
+less n m e = grind (arith, common_steps)
+
+pub not_less : (n m : ℕ) → nat_lt n m ≡ false → m ≤ n
+not_less n m e = grind (arith, common_steps)
+
+module _ (number_at : ℕ → ℕ → ℕ) (tries : Tries) (tried : ℕ) where
+  pub more_from : (number : ℕ) (found : Reached)
+      → IsFirstMost (record tries { phase_end = tries.first_phase + 1; from_end = tried }) number_at found
+      → tries.first_from < tried → number ≡ number_at tries.first_phase tried
+      → IsFirstMost (record tries { phase_end = tries.first_phase + 1; from_end = tried + 1 }) number_at
+      (or_more found (record { number = number; phase = tries.first_phase; from = tried }))
+  more_from number found h some is =
+      next_from _ _ most number_at tries tried number found (nat_lt found.number number) h some is (less found.number number)
+      (not_less found.number number)
+
+  pub more_phase : (found new : Reached) → IsFirstMost (record tries { phase_end = tried }) number_at found
+      → IsFirstMost (record tries { first_phase = tried; phase_end = tried + 1 }) number_at new → tries.first_phase < tried
+      → IsFirstMost (record tries { phase_end = tried + 1 }) number_at (or_more found new)
+  more_phase found new h g some =
+      next_phase _ _ most number_at tries tried found new (nat_lt found.number new.number) h g some
+      (less found.number new.number) (not_less found.number new.number)
+
+  pub fewer_from : (number : ℕ) (found : Reached)
+      → IsFirstFewest (record tries { phase_end = tries.first_phase + 1; from_end = tried }) number_at found
+      → tries.first_from < tried → number ≡ number_at tries.first_phase tried
+      → IsFirstFewest (record tries { phase_end = tries.first_phase + 1; from_end = tried + 1 }) number_at
+      (or_fewer found (record { number = number; phase = tries.first_phase; from = tried }))
+  fewer_from number found h some is =
+      next_from _ _ fewest number_at tries tried number found (nat_lt number found.number) h some is
+      (less number found.number) (not_less number found.number)
+
+  pub fewer_phase : (found new : Reached) → IsFirstFewest (record tries { phase_end = tried }) number_at found
+      → IsFirstFewest (record tries { first_phase = tried; phase_end = tried + 1 }) number_at new → tries.first_phase < tried
+      → IsFirstFewest (record tries { phase_end = tried + 1 }) number_at (or_fewer found new)
+  fewer_phase found new h g some =
+      next_phase _ _ fewest number_at tries tried found new (nat_lt new.number found.number) h g some
+      (less new.number found.number) (not_less new.number found.number)
+
+-- ---- what is tried is a pace
+
+pub tried_pace : (pace : Pace) (tries : Tries) (phase from : ℕ) → AreTried pace tries → phase < tries.phase_end → from < 2 ^ 32
+    → IsPace (begun pace phase from)
+tried_pace pace tries phase from h few late = record {
+  tov = omega (arith, few, h.below);
+  short = h.tov;
+  phase = omega (arith, few, h.below);
+  span = h.span;
+  brief = h.brief;
+  parts = h.parts;
+  quick = h.quick;
+  late = omega (arith, late);
+}
+
+pub one_phase : (pace : Pace) (tries : Tries) (phase : ℕ) → AreTried pace tries → phase < tries.phase_end
+    → AreTried pace (record tries { first_phase = phase })
+one_phase pace tries phase h few = record {
+  tov = h.tov;
+  span = h.span;
+  brief = h.brief;
+  parts = h.parts;
+  quick = h.quick;
+  phases = few;
+  below = h.below;
+  beginnings = h.beginnings;
+}
+
+-- ---- what the pass reports
+
+pub least_some : (room : ℕ) (stalls : List Stall) (pace : Pace) (arrivals : List Arrival) (end : ℕ)
+    → 1 ≤ least_of room stalls pace arrivals end
+least_some room stalls pace arrivals end =
+    all_grow room pace.tov (schedule_to stalls pace arrivals end) (first_pass pace.tov)
+
+pub never_at : (room blocks : ℕ) (stalls : List Stall) (pace : Pace) (arrivals : List Arrival) (end : ℕ)
+    (happenings : List Happening)
+    → events_of happenings ≡ schedule_to stalls pace arrivals end → 1 ≤ blocks
     → NeverFreezes (record { room = room; blocks = blocks; tov = pace.tov }) happenings
-    ↔ (least_of room stalls pace arrivals ≤ blocks)
-never_at room blocks stalls pace arrivals happenings same some =
+    ↔ (least_of room stalls pace arrivals end ≤ blocks)
+never_at room blocks stalls pace arrivals end happenings same some =
     threshold_at room pace.tov blocks happenings _ _ same refl some

@@ -1,5 +1,6 @@
 -- One pass over the events of a ring of a given size.
-use Rattle.std.specs.Prelude.{ℕ, ◌+◌, ◌<◌, ◌≤◌, ◌^◌, Bool, false, nat_lt, nat_le, if◌then◌else◌}
+use Rattle.std.specs.Prelude.{ℕ, ◌+◌, ◌<◌, ◌≤◌, ◌^◌, Bool, true, false, nat_lt, nat_le}
+use Rattle.std.specs.Prelude.{if◌then◌else◌}
 use Rattle.std.specs.Prelude.{List, [], ◌∷◌}
 use Rattle.ring_model.specs.declared.notes.Stats.{Stats}
 use Rattle.ring_sizes.specs.declared.events.Event.{Event}
@@ -34,6 +35,11 @@ abbrev pub opened : Block → ℕ
 opened Frozen = 0
 opened Empty = 1
 opened Filled = 1
+
+-- the open block has no packet
+abbrev pub is_empty : Block → Bool
+is_empty Empty = true
+is_empty block = false
 
 -- a packet of this need goes into the open block
 abbrev pub has_space : ℕ → ℕ → ℕ → Block → Bool

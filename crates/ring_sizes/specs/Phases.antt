@@ -1,48 +1,82 @@
--- The greatest of the least rings over all beginnings of a timer and a reader.
-use Rattle.std.specs.Prelude.{◌≡◌, ℕ, ◌*◌, ◌<◌, ◌≤◌, ◌^◌, List}
+-- Numbers at each beginning of a timer and a reader: the first at which one is greatest or least.
+use Rattle.std.specs.Prelude.{◌≡◌, ℕ, ◌*◌, ◌<◌, ◌≤◌, ◌^◌, ◌⊎◌, List, nat_lt}
+use Rattle.std.specs.Prelude.{if◌then◌else◌}
+use Rattle.ring_sizes.specs.Courses.{all_went_on, first_course}
 use Rattle.ring_sizes.specs.Passes.{first_pass, passed_all}
-use Rattle.ring_sizes.specs.Schedules.{schedule}
+use Rattle.ring_sizes.specs.Schedules.{schedule_to}
 use Rattle.ring_sizes.specs.declared.paces.Arrival.{Arrival}
 use Rattle.ring_sizes.specs.declared.paces.Pace.{Pace}
 use Rattle.ring_sizes.specs.declared.paces.Stall.{Stall}
-use Rattle.ring_sizes.specs.declared.phases.Worst.{Worst}
+use Rattle.ring_sizes.specs.declared.tries.Reached.{Reached}
+use Rattle.ring_sizes.specs.declared.tries.Tries.{Tries}
 
--- a timer and a reader that were started so many milliseconds before the first frame
+-- a timer that was started so many milliseconds before the first frame, and a reader that begins so
+-- many milliseconds after it
 abbrev pub begun : Pace → ℕ → ℕ → Pace
-begun pace phase from = record pace { phase = phase; shift = from * 1000000 }
+begun pace phase from = record pace { phase = phase; start = from * 1000000 }
 
--- the number of blocks that a pass over the schedule tells
-abbrev pub least_of : ℕ → List Stall → Pace → List Arrival → ℕ
-least_of room stalls pace arrivals =
-    (passed_all room pace.tov (schedule stalls pace arrivals) (first_pass pace.tov)).least
+-- the number of blocks that a pass over the schedule reports
+abbrev pub least_of : ℕ → List Stall → Pace → List Arrival → ℕ → ℕ
+least_of room stalls pace arrivals end =
+    (passed_all room pace.tov (schedule_to stalls pace arrivals end) (first_pass pace.tov)).least
 
--- a valid timer and reader, at each of so many beginnings of the reader
-pub record AreBegun (pace : Pace) (beginnings : ℕ) : Type 0 where
-  pub some : 0 < beginnings
-  pub tov : 0 < pace.tov
-  pub short : pace.tov < 2 ^ 32
+-- the packets that a course over the schedule drops
+abbrev pub drops_of : ℕ → ℕ → List Stall → Pace → List Arrival → ℕ → ℕ
+drops_of room blocks stalls pace arrivals end =
+    (all_went_on room blocks pace.tov (schedule_to stalls pace arrivals end)
+    (first_course pace.tov)).dropped
+
+-- a phase of the timer that is tried, in milliseconds
+abbrev pub IsPhase : Tries → ℕ → Type 0
+IsPhase tries phase = (tries.first_phase ≤ phase) × (phase < tries.phase_end)
+
+-- a beginning of the reader that is tried, in milliseconds
+abbrev pub IsBeginning : Tries → ℕ → Type 0
+IsBeginning tries from = (tries.first_from ≤ from) × (from < tries.from_end)
+
+-- a valid timer and reader, of which some phases are tried, each below the time-out, and some
+-- beginnings
+pub record AreTried (pace : Pace) (tries : Tries) : Type 0 where
+  pub tov : pace.tov < 2 ^ 32
   pub span : 0 < pace.span
   pub brief : pace.span < 2 ^ 60
   pub parts : 0 < pace.parts
-  pub slow : pace.parts ≤ pace.span
-  pub shift : (from : ℕ) → from < beginnings → from * 1000000 * pace.parts ≤ pace.span
+  pub quick : pace.parts ≤ 8 * pace.span
+  pub phases : tries.first_phase < tries.phase_end
+  pub below : tries.phase_end ≤ pace.tov
+  pub beginnings : tries.first_from < tries.from_end
 
--- of the beginnings below this one, the one found is the first that needs most
-pub record IsFirstBeginning (room : ℕ) (stalls : List Stall) (pace : Pace) (phase : ℕ)
-    (arrivals : List Arrival) (beginnings : ℕ) (worst : Worst) : Type 0 where
-  pub inside : worst.from < beginnings
-  pub reached : worst.least ≡ least_of room stalls (begun pace phase worst.from) arrivals
-  pub most : (from : ℕ) → from < beginnings
-      → least_of room stalls (begun pace phase from) arrivals ≤ worst.least
-  pub first : (from : ℕ) → from < worst.from
-      → least_of room stalls (begun pace phase from) arrivals < worst.least
+-- an earlier phase than the one found, or an earlier beginning at the same phase
+abbrev pub IsEarlier : ℕ → ℕ → Reached → Type 0
+IsEarlier phase from found =
+    (phase < found.phase) ⊎ ((phase ≡ found.phase) × (from < found.from))
 
--- of the phases below this one, the one found is the first that needs most
-pub record IsFirstPhase (room : ℕ) (stalls : List Stall) (pace : Pace) (beginnings : ℕ)
-    (arrivals : List Arrival) (phases : ℕ) (worst : Worst) : Type 0 where
-  pub inside : worst.phase < phases
-  pub beginning : IsFirstBeginning room stalls pace worst.phase arrivals beginnings worst
-  pub most : (phase from : ℕ) → phase < phases → from < beginnings
-      → least_of room stalls (begun pace phase from) arrivals ≤ worst.least
-  pub first : (phase from : ℕ) → phase < worst.phase → from < beginnings
-      → least_of room stalls (begun pace phase from) arrivals < worst.least
+-- of what is tried the first at which a number is reached that stands so to each other one, and
+-- to each earlier one so
+pub record IsFirst (Best Better : ℕ → ℕ → Type 0) (tries : Tries) (number_at : ℕ → ℕ → ℕ)
+    (found : Reached) : Type 0 where
+  pub phase : IsPhase tries found.phase
+  pub from : IsBeginning tries found.from
+  pub reached : found.number ≡ number_at found.phase found.from
+  pub best : (phase from : ℕ) → IsPhase tries phase → IsBeginning tries from
+      → Best found.number (number_at phase from)
+  pub first : (phase from : ℕ) → IsPhase tries phase → IsBeginning tries from
+      → IsEarlier phase from found → Better found.number (number_at phase from)
+
+-- the first at which the number is greatest
+abbrev pub IsFirstMost : Tries → (ℕ → ℕ → ℕ) → Reached → Type 0
+IsFirstMost tries number_at found =
+    IsFirst (λ number other. other ≤ number) (λ number other. other < number) tries number_at found
+
+-- the first at which the number is least
+abbrev pub IsFirstFewest : Tries → (ℕ → ℕ → ℕ) → Reached → Type 0
+IsFirstFewest tries number_at found =
+    IsFirst (λ number other. number ≤ other) (λ number other. number < other) tries number_at found
+
+-- the one with the greater number; of equal ones the first
+abbrev pub or_more : Reached → Reached → Reached
+or_more found other = if nat_lt found.number other.number then other else found
+
+-- the one with the lesser number; of equal ones the first
+abbrev pub or_fewer : Reached → Reached → Reached
+or_fewer found other = if nat_lt other.number found.number then other else found

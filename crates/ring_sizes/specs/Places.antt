@@ -6,7 +6,6 @@ use Rattle.ring_sizes.specs.declared.timed.Place.{Place}
 
 abbrev pub place_at : Pace → ℕ → Place
 place_at pace at = record {
-  at = at;
   ticks = ticks_by pace at;
   tick_at = tick_moment pace (ticks_by pace at + 1);
   steps = steps_before pace at;

@@ -18,13 +18,14 @@ tick_moment pace number = number * (pace.tov * 1000000) - pace.phase * 1000000
 abbrev pub ticks_by : Pace → ℕ → ℕ
 ticks_by pace at = (at + pace.phase * 1000000) / (pace.tov * 1000000)
 
--- the moment of the reader's n-th step, counted from 1: n spans divided by the parts, less a shift
+-- the moment of the reader's n-th step, counted from 1: its beginning and n - 1 spans, divided by
+-- the parts
 abbrev pub step_moment : Pace → ℕ → ℕ
-step_moment pace number = number * pace.span / pace.parts - pace.shift
+step_moment pace number = pace.start + (number - 1) * pace.span / pace.parts
 
 -- how many steps come before a moment
 abbrev pub steps_before : Pace → ℕ → ℕ
-steps_before pace at = ((at + pace.shift) * pace.parts - 1) / pace.span
+steps_before pace at = ((at - pace.start) * pace.parts + (pace.span - 1)) / pace.span
 
 -- the reader does nothing at this moment
 abbrev pub is_stalled : List Stall → ℕ → Bool
@@ -63,20 +64,28 @@ abbrev pub beats_between : List Stall → Pace → ℕ → ℕ → List Event
 beats_between stalls pace since at =
     beats stalls pace (ticks_by pace at - ticks_by pace since) (ticks_by pace since) since at
 
--- the events up to the last frame, if the frame before these came at a moment; a frame that is
--- older than the one before it comes right after that
-abbrev pub schedule_from : List Stall → Pace → ℕ → List Arrival → List Event
-schedule_from stalls pace since [] = []
-schedule_from stalls pace since (arrival ∷ arrivals) =
+-- what comes after the last of a ring's frames, by the end and at it
+abbrev pub beats_to : List Stall → Pace → ℕ → ℕ → List Event
+beats_to stalls pace since end =
+    beats stalls pace (ticks_by pace end - ticks_by pace since) (ticks_by pace since) since
+    (end + 1)
+
+-- the events by the end, if the frame before these came at a moment; a frame that is older than the
+-- one before it comes right after that
+abbrev pub schedule_from : List Stall → Pace → ℕ → ℕ → List Arrival → List Event
+schedule_from stalls pace end since [] = beats_to stalls pace since end
+schedule_from stalls pace end since (arrival ∷ arrivals) =
     let at = max since arrival.at in
     beats_between stalls pace since at
-    ++ Packet arrival.need ∷ schedule_from stalls pace at arrivals
+    ++ Packet arrival.need ∷ schedule_from stalls pace end at arrivals
 
-abbrev pub schedule : List Stall → Pace → List Arrival → List Event
-schedule stalls pace arrivals = schedule_from stalls pace 0 arrivals
+-- the events of a ring with these frames in a run that ends at a moment: that of the last frame of
+-- all rings, with which the ticks and steps after the last frame of this one still come
+abbrev pub schedule_to : List Stall → Pace → List Arrival → ℕ → List Event
+schedule_to stalls pace arrivals end = schedule_from stalls pace end 0 arrivals
 
--- a valid timer and reader: neither period is 0, the reader makes at most a step a nanosecond, and
--- each began less than a period before the first frame, the reader at most one
+-- a valid timer and reader: neither period is 0, the timer began less than a time-out before the
+-- first frame, the reader begins within 292 years, and makes at most eight steps a nanosecond
 pub record IsPace (pace : Pace) : Type 0 where
   pub tov : 0 < pace.tov
   pub short : pace.tov < 2 ^ 32
@@ -84,5 +93,5 @@ pub record IsPace (pace : Pace) : Type 0 where
   pub span : 0 < pace.span
   pub brief : pace.span < 2 ^ 60
   pub parts : 0 < pace.parts
-  pub slow : pace.parts ≤ pace.span
-  pub shift : pace.shift * pace.parts ≤ pace.span
+  pub quick : pace.parts ≤ 8 * pace.span
+  pub late : pace.start < 2 ^ 63

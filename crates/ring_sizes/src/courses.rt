@@ -8,7 +8,7 @@ ghost use Rattle.ring_model.specs.Rings.{fresh};
 ghost use Rattle.ring_sizes.specs.Courses.{IsSmall, at_due, course_stats, fed, first_course};
 ghost use Rattle.ring_sizes.specs.Courses.{is_free, opened, over_time, went_on};
 ghost use Rattle.ring_sizes.specs.EventLists.{events_of};
-ghost use Rattle.ring_sizes.specs.Rests.{course_read};
+ghost use Rattle.ring_sizes.specs.Rests.{course_read, is_still};
 
 use crate::Event;
 use ring_model::Stats;
@@ -155,6 +155,13 @@ impl Course {
         }
         self.time_out(blocks);
         self.deadline = u128::from(ms) + u128::from(tov);
+    }
+
+    /// Whether the open block is empty, and its time over at this moment.
+    pub fn is_still(&self, ms: u64) -> bool
+        ensures { result ≡ is_still ms self.now }
+    {
+        matches!(self.block, Block::Empty) && self.deadline <= u128::from(ms)
     }
 
     /// Takes a block's time-out.

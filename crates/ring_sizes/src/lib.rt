@@ -6,10 +6,12 @@ mod courses;
 mod events;
 mod laws;
 mod paces;
+mod phase_losses;
 mod phases;
 mod sizes;
 mod timed;
 mod timed_courses;
+mod tries;
 
 pub use courses::{Course, losses};
 pub use events::Event;
@@ -19,7 +21,9 @@ pub use laws::{
     a_tick_is_counted_from_its_moment_on, as_many_reads_as_blocks_read_all,
 };
 pub use paces::{Arrival, Pace, Stall};
-pub use phases::{Worst, least_of_all, worst_at};
+pub use phase_losses::{DropRange, losses_of_all};
+pub use phases::least_of_all;
 pub use sizes::{Pass, least};
 pub use timed::{least_at, timed_pass};
 pub use timed_courses::losses_at;
+pub use tries::{Reached, Tries};

@@ -3,100 +3,89 @@ ghost use Rattle.std.specs.Prelude.{◌≡◌, ◌↔◌, ◌+◌, ◌<◌, ◌�
 ghost use Rattle.ring_events.specs.Happenings.{NeverFreezes};
 ghost use Rattle.ring_events.specs.declared.events.Happening.{Happening};
 ghost use Rattle.ring_sizes.specs.EventLists.{events_of};
-ghost use Rattle.ring_sizes.specs.Phases.{AreBegun, IsFirstBeginning, IsFirstPhase, begun};
+ghost use Rattle.ring_sizes.specs.Phases.{AreTried, IsBeginning, IsFirstMost, IsPhase, begun};
 ghost use Rattle.ring_sizes.specs.Phases.{least_of};
-ghost use Rattle.ring_sizes.specs.Schedules.{schedule};
+ghost use Rattle.ring_sizes.specs.Schedules.{schedule_to};
 
-use crate::{Arrival, Pace, Stall, least_at};
+use crate::{Arrival, Pace, Reached, Stall, Tries, least_at};
 
-/// A least ring, and when the timer and the reader have to begin to need it.
-#[derive(Clone, Copy, Debug, PartialEq, Eq)]
-pub struct Worst {
-    /// The least number of blocks.
-    pub least: u64,
-    /// How many milliseconds before the first frame the timer was started.
-    pub phase: u32,
-    /// How many milliseconds before the first frame the reader began.
-    pub from: u32,
-}
-
-/// The least number of blocks, at least 1, with which a ring never freezes whatever whole number of
-/// milliseconds below the time-out the timer was started before the first frame, and whatever whole
-/// number below `beginnings` the reader began before it; and the first phase, and of this phase the
-/// first beginning, at which it is reached. `pace` has any phase and shift.
+/// The least number of blocks, at least 1, with which a ring never freezes at any phase of the
+/// timer and any beginning of the reader that are tried; and the first at which it is reached.
+/// `pace` has any phase and start.
 pub fn least_of_all(
     room: u32,
     pace: &Pace,
-    beginnings: u32,
+    tries: &Tries,
     stalls: &[Stall],
     arrivals: &[Arrival],
-) -> Worst
-    requires begun { AreBegun pace.now beginnings }
+    end: u64,
+) -> Reached
+    requires tried { AreTried pace.now tries.now }
     requires early { All (λ arrival. arrival.at < 2 ^ 53) arrivals.now }
+    requires soon { end < 2 ^ 53 }
     requires few { length arrivals.now < 2 ^ 60 }
-    ensures inside { (result.phase < pace.now.tov) × (result.from < beginnings) }
+    ensures some { 1 ≤ result.number }
     ensures enough { (phase from blocks : ℕ) (happenings : List Happening)
-        → phase < pace.now.tov → from < beginnings
-        → events_of happenings ≡ schedule stalls.now (begun pace.now phase from) arrivals.now
-        → result.least ≤ blocks
+        → IsPhase tries.now phase → IsBeginning tries.now from
+        → events_of happenings ≡ schedule_to stalls.now (begun pace.now phase from) arrivals.now end
+        → result.number ≤ blocks
         → NeverFreezes (record { room = room; blocks = blocks; tov = pace.now.tov }) happenings }
     ensures reached { (blocks : ℕ) (happenings : List Happening)
         → events_of happenings
-        ≡ schedule stalls.now (begun pace.now result.phase result.from) arrivals.now
+        ≡ schedule_to stalls.now (begun pace.now result.phase result.from) arrivals.now end
         → 1 ≤ blocks
         → NeverFreezes (record { room = room; blocks = blocks; tov = pace.now.tov }) happenings
-        ↔ (result.least ≤ blocks) }
-    ensures first { IsFirstPhase room stalls.now pace.now beginnings arrivals.now pace.now.tov
+        ↔ (result.number ≤ blocks) }
+    ensures first { IsFirstMost tries.now
+        (λ phase from. least_of room stalls.now (begun pace.now phase from) arrivals.now end)
         result }
 {
-    let mut worst = Worst {
-        least: 0,
-        phase: 0,
-        from: 0,
-    };
-    let mut phase = 0;
-    while phase < pace.tov {
-        let found = worst_at(room, &Pace { phase, ..*pace }, beginnings, stalls, arrivals);
-        if worst.least < found.least {
-            worst = found;
-        }
+    let mut worst = least_at_phase(room, pace, tries, stalls, arrivals, end);
+    let mut phase = tries.first_phase + 1;
+    while phase < tries.phase_end {
+        let here = Tries {
+            first_phase: phase,
+            ..*tries
+        };
+        worst = worst.or_more(least_at_phase(room, pace, &here, stalls, arrivals, end));
         phase += 1;
     }
     worst
 }
 
-/// The same for one phase of the timer.
-pub fn worst_at(
+/// The same for the first phase of those that are tried.
+fn least_at_phase(
     room: u32,
     pace: &Pace,
-    beginnings: u32,
+    tries: &Tries,
     stalls: &[Stall],
     arrivals: &[Arrival],
-) -> Worst
-    requires begun { AreBegun pace.now beginnings }
-    requires phase { pace.now.phase < pace.now.tov }
+    end: u64,
+) -> Reached
+    requires tried { AreTried pace.now tries.now }
     requires early { All (λ arrival. arrival.at < 2 ^ 53) arrivals.now }
+    requires soon { end < 2 ^ 53 }
     requires few { length arrivals.now < 2 ^ 60 }
-    ensures phase { result.phase ≡ pace.now.phase }
-    ensures first { IsFirstBeginning room stalls.now pace.now pace.now.phase arrivals.now beginnings
+    ensures { IsFirstMost (record tries.now { phase_end = tries.now.first_phase + 1 })
+        (λ phase from. least_of room stalls.now (begun pace.now phase from) arrivals.now end)
         result }
 {
-    let mut worst = Worst {
-        least: 0,
-        phase: pace.phase,
-        from: 0,
+    let phase = tries.first_phase;
+    let mut from = tries.first_from;
+    let least = least_at(room, &pace.begun(phase, from), stalls, arrivals, end);
+    let mut worst = Reached {
+        number: least,
+        phase,
+        from,
     };
-    let mut from = 0;
-    while from < beginnings {
-        let shift = u64::from(from) * 1_000_000;
-        let least = least_at(room, &Pace { shift, ..*pace }, stalls, arrivals);
-        if worst.least < least {
-            worst = Worst {
-                least,
-                from,
-                ..worst
-            };
-        }
+    from += 1;
+    while from < tries.from_end {
+        let number = least_at(room, &pace.begun(phase, from), stalls, arrivals, end);
+        worst = worst.or_more(Reached {
+            number,
+            phase,
+            from,
+        });
         from += 1;
     }
     worst

@@ -88,7 +88,7 @@ impl Pass {
     }
 
     /// Takes a packet.
-    fn offer(&mut self, need: u32, room: u32, tov: u64)
+    pub fn offer(&mut self, need: u32, room: u32, tov: u64)
         requires { IsWithin (2 ^ 63) self.old }
         ensures goes { self.new ≡ offered room tov need self.old }
         ensures used { self.new.used < 2 ^ 32 }

@@ -7,15 +7,14 @@ ghost use Rattle.ring_sizes.specs.Passes.{IsWithin, first_pass, passed_all};
 ghost use Rattle.ring_sizes.specs.Phases.{least_of};
 ghost use Rattle.ring_sizes.specs.Places.{place_at};
 ghost use Rattle.ring_sizes.specs.Rests.{after_last, after_next, read_to, rested};
-ghost use Rattle.ring_sizes.specs.Schedules.{IsPace, schedule};
+ghost use Rattle.ring_sizes.specs.Schedules.{IsPace, schedule_to, steps_before, tick_moment};
+ghost use Rattle.ring_sizes.specs.Schedules.{ticks_by};
 
 use crate::{Arrival, Event, Pace, Pass, Stall};
 
-/// How far the timer and the reader have come.
+/// How far the timer and the reader have come at a frame's moment.
 #[derive(Clone, Copy)]
 struct Place {
-    /// The moment of the last frame.
-    at: u64,
     /// How many ticks came by then, and when the next one comes.
     ticks: u64,
     tick_at: u64,
@@ -25,51 +24,66 @@ struct Place {
 }
 
 /// The least number of blocks, at least 1, with which a ring never freezes whose frames come at
-/// these moments, beside a timer and a reader. Between two frames it takes no longer than the ticks
-/// that open a block and the stalls that begin and end.
-pub fn least_at(room: u32, pace: &Pace, stalls: &[Stall], arrivals: &[Arrival]) -> u64
+/// these moments, beside a timer and a reader, in a run that ends at a moment. Between two frames
+/// it takes no longer than the ticks that open a block and the stalls that begin and end.
+pub fn least_at(room: u32, pace: &Pace, stalls: &[Stall], arrivals: &[Arrival], end: u64) -> u64
     requires sound { IsPace pace.now }
     requires early { All (λ arrival. arrival.at < 2 ^ 53) arrivals.now }
+    requires soon { end < 2 ^ 53 }
     requires few { length arrivals.now < 2 ^ 60 }
     ensures some { 1 ≤ result }
-    ensures least { result ≡ least_of room stalls.now pace.now arrivals.now }
+    ensures least { result ≡ least_of room stalls.now pace.now arrivals.now end }
     ensures threshold { (blocks : ℕ) (happenings : List Happening)
-        → events_of happenings ≡ schedule stalls.now pace.now arrivals.now → 1 ≤ blocks
+        → events_of happenings ≡ schedule_to stalls.now pace.now arrivals.now end → 1 ≤ blocks
         → NeverFreezes (record { room = room; blocks = blocks; tov = pace.now.tov }) happenings
         ↔ (result ≤ blocks) }
 {
-    timed_pass(room, pace, stalls, arrivals).least()
+    timed_pass(room, pace, stalls, arrivals, end).least()
 }
 
 /// The pass of a ring whose frames come at these moments, beside a timer and a reader.
-pub fn timed_pass(room: u32, pace: &Pace, stalls: &[Stall], arrivals: &[Arrival]) -> Pass
+pub fn timed_pass(room: u32, pace: &Pace, stalls: &[Stall], arrivals: &[Arrival], end: u64) -> Pass
     requires sound { IsPace pace.now }
     requires early { All (λ arrival. arrival.at < 2 ^ 53) arrivals.now }
+    requires soon { end < 2 ^ 53 }
     requires few { length arrivals.now < 2 ^ 60 }
     ensures { result ≡ passed_all room pace.now.tov
-        (schedule stalls.now pace.now arrivals.now) (first_pass pace.now.tov) }
+        (schedule_to stalls.now pace.now arrivals.now end) (first_pass pace.now.tov) }
 {
     let tov = u64::from(pace.tov);
     let mut pass = Pass::new(tov);
     let mut place = Place::new(pace, 0);
+    let mut until = place.until();
+    let mut at = 0;
     for arrival in arrivals {
-        place = place.go_on(&mut pass, pace, stalls, place.at.max(arrival.at));
-        pass.take(Event::Packet(arrival.need), room, tov);
+        at = at.max(arrival.at);
+        if until <= at {
+            let next = Place::new(pace, at);
+            pass = place.rest(pass, pace, stalls, next.ticks, next.steps);
+            place = next;
+            until = place.until();
+        }
+        pass.offer(arrival.need, room, tov);
     }
-    pass
+    place.rest(
+        pass,
+        pace,
+        stalls,
+        pace.ticks_by(end),
+        pace.steps_before(end + 1),
+    )
 }
 
 impl Place {
     /// At a frame's moment.
     fn new(pace: &Pace, at: u64) -> Place
         requires sound { IsPace pace.now }
-        requires early { at < 2 ^ 53 }
+        requires early { at ≤ 2 ^ 53 }
         ensures { result ≡ place_at pace.now at }
     {
         let ticks = pace.ticks_by(at);
         let steps = pace.steps_before(at);
         Place {
-            at,
             ticks,
             tick_at: pace.tick_moment(ticks + 1),
             steps,
@@ -77,31 +91,35 @@ impl Place {
         }
     }
 
-    /// Comes to the moment of the next frame, with what the timer and the reader do before it.
-    fn go_on(self, pass: &mut Pass, pace: &Pace, stalls: &[Stall], at: u64) -> Place
-        requires sound { IsPace pace.now }
-        requires early { at < 2 ^ 53 }
-        requires later { self.at ≤ at }
-        requires place { self ≡ place_at pace.now self.at }
-        requires within { IsWithin (2 ^ 62) pass.old }
-        ensures place { result ≡ place_at pace.now at }
-        ensures goes { pass.new ≡ rested stalls.now pace.now self.at at pass.old }
+    /// A moment; before a frame that comes before it neither a tick nor a step comes.
+    fn until(self) -> u64
+        ensures { (at : ℕ) → at < result → (at < self.tick_at) × (at ≤ self.step_at) }
     {
-        if at < self.tick_at && at <= self.step_at {
-            return Place { at, ..self };
-        }
-        let next = Place::new(pace, at);
-        if pass.is_empty() || next.ticks <= self.ticks {
-            pass.tick_on(self.ticks, next.ticks, pace);
-            pass.read_to(self.steps, next.steps, pace, stalls);
+        self.tick_at.min(self.step_at.saturating_add(1))
+    }
+
+    /// The pass after the ticks up to this number and so many steps. It has both by value, so that
+    /// a caller's loop keeps them in registers.
+    fn rest(self, pass: Pass, pace: &Pace, stalls: &[Stall], last: u64, to: u64) -> Pass
+        requires sound { IsPace pace.now }
+        requires ticks { last ≤ ticks_by pace.now (2 ^ 53) }
+        requires steps { to ≤ steps_before pace.now (2 ^ 53) }
+        requires within { IsWithin (2 ^ 62) pass }
+        requires next { self.tick_at ≡ tick_moment pace.now (self.ticks + 1) }
+        ensures { result ≡ rested stalls.now pace.now self.ticks last self.steps to pass }
+    {
+        let mut pass = pass;
+        if pass.is_empty() || last <= self.ticks {
+            pass.tick_on(self.ticks, last, pace);
+            pass.read_to(self.steps, to, pace, stalls);
         } else {
             let steps = pace.steps_before(self.tick_at);
             pass.read_to(self.steps, steps, pace, stalls);
             pass.tick((self.ticks + 1) * u64::from(pace.tov), u64::from(pace.tov));
-            pass.tick_on(self.ticks + 1, next.ticks, pace);
-            pass.read_to(steps, next.steps, pace, stalls);
+            pass.tick_on(self.ticks + 1, last, pace);
+            pass.read_to(steps, to, pace, stalls);
         }
-        next
+        pass
     }
 }
 
@@ -120,6 +138,7 @@ impl Pass {
     /// Takes the reader's steps from one number on, up to another.
     fn read_to(&mut self, from: u64, to: u64, pace: &Pace, stalls: &[Stall])
         requires sound { IsPace pace.now }
+        requires early { to ≤ steps_before pace.now (2 ^ 53) }
         requires within { IsWithin (2 ^ 63) self.old }
         ensures { self.new ≡ read_to stalls.now pace.now from to self.old }
     {

@@ -5,3 +5,5 @@
 mod event_lists;
 #[cfg(test)]
 mod paced_frames;
+#[cfg(test)]
+mod slots;

@@ -1,9 +1,22 @@
 //! Frames at their moments beside a timer and a reader, with numbers from a second program: a ring
 //! by its rules in Python, which makes each tick and each step of the reader by itself.
 use ring_model::Stats;
-use ring_sizes::{Arrival, Pace, Stall, Worst, least_at, least_of_all, losses_at};
+use ring_sizes::{
+    Arrival, DropRange, Pace, Reached, Stall, Tries, least_at, least_of_all, losses_at,
+    losses_of_all,
+};
 
 const ROOM: u32 = 1000;
+
+/// The last frame of another ring comes later than each of these.
+const END: u64 = 75_000_000;
+
+const TRIES: Tries = Tries {
+    first_phase: 0,
+    phase_end: 5,
+    first_from: 0,
+    from_end: 6,
+};
 
 const ARRIVALS: [Arrival; 11] = [
     Arrival { at: 0, need: 400 },
@@ -57,15 +70,15 @@ fn a_reader_that_takes_all_and_stalls(rt: HostRuntime) {
         phase: 2,
         span: 6_000_000,
         parts: 1,
-        shift: 1_000_000,
+        start: 5_000_000,
         takes_all: true,
     };
     let stalls = [Stall {
         from: 13_000_000,
         length: 8_000_000,
     }];
-    assert_eq!(rt; least_at(ROOM, &pace, &stalls, &ARRIVALS), 4);
-    let two = losses_at(ROOM, 2, &pace, &stalls, &ARRIVALS);
+    assert_eq!(rt; least_at(ROOM, &pace, &stalls, &ARRIVALS, END), 4);
+    let two = losses_at(ROOM, 2, &pace, &stalls, &ARRIVALS, END);
     assert_eq!(rt;
         two,
         Stats {
@@ -74,7 +87,7 @@ fn a_reader_that_takes_all_and_stalls(rt: HostRuntime) {
             freezes: 1
         }
     );
-    let three = losses_at(ROOM, 3, &pace, &stalls, &ARRIVALS);
+    let three = losses_at(ROOM, 3, &pace, &stalls, &ARRIVALS, END);
     assert_eq!(rt;
         three,
         Stats {
@@ -83,13 +96,29 @@ fn a_reader_that_takes_all_and_stalls(rt: HostRuntime) {
             freezes: 1
         }
     );
-    let worst = least_of_all(ROOM, &pace, 6, &stalls, &ARRIVALS);
+    let worst = least_of_all(ROOM, &pace, &TRIES, &stalls, &ARRIVALS, END);
     assert_eq!(rt;
         worst,
-        Worst {
-            least: 5,
+        Reached {
+            number: 5,
             phase: 0,
-            from: 3
+            from: 1
+        }
+    );
+    let range = losses_of_all(ROOM, 2, &pace, &TRIES, &stalls, &ARRIVALS, END);
+    assert_eq!(rt;
+        range,
+        DropRange {
+            fewest: Reached {
+                number: 0,
+                phase: 3,
+                from: 0
+            },
+            most: Reached {
+                number: 4,
+                phase: 2,
+                from: 1
+            }
         }
     );
 }
@@ -102,26 +131,58 @@ fn a_reader_of_one_block_at_a_time(rt: HostRuntime) {
         phase: 0,
         span: 1_000_000_000,
         parts: 150,
-        shift: 3_000_000,
+        start: 3_000_000,
         takes_all: false,
     };
-    assert_eq!(rt; least_at(ROOM, &pace, &[], &ARRIVALS), 4);
-    let two = losses_at(ROOM, 2, &pace, &[], &ARRIVALS);
+    assert_eq!(rt; least_at(ROOM, &pace, &[], &ARRIVALS, END), 4);
+    let two = losses_at(ROOM, 2, &pace, &[], &ARRIVALS, END);
     assert_eq!(rt;
         two,
         Stats {
             packets: 11,
             drops: 2,
-            freezes: 2
+            freezes: 1
         }
     );
-    let worst = least_of_all(ROOM, &pace, 6, &[], &ARRIVALS);
+    let worst = least_of_all(ROOM, &pace, &TRIES, &[], &ARRIVALS, END);
     assert_eq!(rt;
         worst,
-        Worst {
-            least: 4,
+        Reached {
+            number: 4,
             phase: 0,
             from: 0
         }
     );
+    let range = losses_of_all(ROOM, 2, &pace, &TRIES, &[], &ARRIVALS, END);
+    assert_eq!(rt;
+        range,
+        DropRange {
+            fewest: Reached {
+                number: 1,
+                phase: 0,
+                from: 0
+            },
+            most: Reached {
+                number: 3,
+                phase: 1,
+                from: 3
+            }
+        }
+    );
+}
+
+/// Ticks come after the last frame of a ring, up to the last of all rings.
+#[test]
+fn ticks_after_the_last_frame_count(rt: HostRuntime) {
+    let pace = Pace {
+        tov: 5,
+        phase: 2,
+        span: 6_000_000,
+        parts: 1,
+        start: 1_000_000_000,
+        takes_all: true,
+    };
+    let first = &ARRIVALS[..3];
+    assert_eq!(rt; least_at(ROOM, &pace, &[], first, 8_200_000), 3);
+    assert_eq!(rt; least_at(ROOM, &pace, &[], first, 40_000_000), 4);
 }

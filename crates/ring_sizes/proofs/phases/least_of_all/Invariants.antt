@@ -1,12 +1,14 @@
-use Rattle.std.proofs.Common.{◌-◌, ◌≤◌}
-use Rattle.ring_sizes.proofs.Worsts.{IsPhaseSoFar}
+use Rattle.std.proofs.Common.{◌-◌, ◌<◌, ◌≤◌}
+use Rattle.ring_sizes.specs.Phases.{IsFirstMost, begun, least_of}
 use Rattle.ring_sizes.proofs.phases.least_of_all.Given as goal
 
 abbrev pub invariant-loop-phase : goal.invariant-loop-phase
 invariant-loop-phase l = record {
-  below : l.phase ≤ l.pace.tov;
-  far : IsPhaseSoFar l.room l.stalls l.pace l.beginnings l.arrivals l.phase l.worst;
+  some : l.tries.first_phase < l.phase;
+  below : l.phase ≤ l.tries.phase_end;
+  far : IsFirstMost (record l.tries { phase_end = l.phase })
+      (λ phase from. least_of l.room l.stalls (begun l.pace phase from) l.arrivals l.end) l.worst;
 }
 
 abbrev pub decreases-loop-phase : goal.decreases-loop-phase
-decreases-loop-phase l = l.pace.tov - l.phase
+decreases-loop-phase l = l.tries.phase_end - l.phase

@@ -1,7 +1,7 @@
 use Rattle.std.proofs.Common.{ℕ, ◌≤◌, ◌↔◌, subst, sym, ap, ◌∙◌, arith}
 use Rattle.ring_events.specs.Happenings.{NeverFreezes}
 use Rattle.ring_sizes.specs.Passes.{first_pass}
-use Rattle.ring_sizes.specs.Schedules.{schedule}
+use Rattle.ring_sizes.specs.Schedules.{schedule_to}
 use Rattle.ring_sizes.specs.declared.sizes.Pass.{Pass}
 use Rattle.ring_sizes.proofs.Never.{all_grow, threshold_at}
 use Rattle.ring_sizes.proofs.timed.least_at.Goals as goal
@@ -9,8 +9,8 @@ use Rattle.ring_sizes.proofs.timed.least_at.Goals as goal
 pub returns-clause-some : goal.returns-clause-some
 returns-clause-some c =
     let least = c.least.ensures ∙ ap (λ (pass : Pass). pass.least) c.timed_pass.ensures in
-    let more = all_grow c.args.room c.args.pace.now.tov (schedule c.args.stalls.now c.args.pace.now c.args.arrivals.now)
-    (first_pass c.args.pace.now.tov) in
+    let more = all_grow c.args.room c.args.pace.now.tov (schedule_to c.args.stalls.now c.args.pace.now c.args.arrivals.now
+    c.args.end) (first_pass c.args.pace.now.tov) in
     omega (arith, least, more)
 
 pub returns-clause-least : goal.returns-clause-least

@@ -1,0 +1,51 @@
+//! Which beginnings of a timer and a reader are tried, and what was found.
+ghost use Rattle.std.specs.Prelude.{◌≡◌};
+ghost use Rattle.ring_sizes.specs.Phases.{or_fewer, or_more};
+
+/// The beginnings of a timer and a reader that are tried, in whole milliseconds: each phase of the
+/// timer with each beginning of the reader.
+#[derive(Clone, Copy, Debug)]
+pub struct Tries {
+    /// How long before the first frame the timer was started: from this phase on, ..
+    pub first_phase: u32,
+    /// .. below this one.
+    pub phase_end: u32,
+    /// How long after the first frame the reader makes its first step: from this beginning on, ..
+    pub first_from: u32,
+    /// .. below this one.
+    pub from_end: u32,
+}
+
+/// A number, and the first phase at which it is reached, with the first beginning of this phase.
+#[derive(Clone, Copy, Debug, PartialEq, Eq)]
+pub struct Reached {
+    pub number: u64,
+    /// How many milliseconds before the first frame the timer was started.
+    pub phase: u32,
+    /// How many milliseconds after the first frame the reader makes its first step.
+    pub from: u32,
+}
+
+impl Reached {
+    /// The one with the greater number; of equal ones the first.
+    pub fn or_more(self, other: Reached) -> Reached
+        ensures { result ≡ or_more self other }
+    {
+        if self.number < other.number {
+            other
+        } else {
+            self
+        }
+    }
+
+    /// The one with the lesser number; of equal ones the first.
+    pub fn or_fewer(self, other: Reached) -> Reached
+        ensures { result ≡ or_fewer self other }
+    {
+        if other.number < self.number {
+            other
+        } else {
+            self
+        }
+    }
+}

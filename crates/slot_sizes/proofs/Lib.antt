@@ -1,0 +1,6 @@
+pub mod SlotStates
+pub mod SlotNever
+pub mod SlotRuns
+pub mod SlotSteps
+pub mod SlotCourseSteps
+pub mod SlotPhases

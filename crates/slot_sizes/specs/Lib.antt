@@ -1,0 +1,4 @@
+pub mod SlotHappenings
+pub mod SlotPasses
+pub mod SlotCourses
+pub mod SlotSchedules
