@@ -1,0 +1,12 @@
+mod ChunkLists
+mod CpuQueues
+mod DealtFeeds
+mod DealtMarks
+mod FileFrames
+mod FilePieces
+mod KeptMarks
+mod KeptTimes
+mod LeftFeeds
+mod MergeSteps
+mod NextFrames
+mod TakenFrames

@@ -1,0 +1,4 @@
+pub mod Dealings
+pub mod Deals
+pub mod FileReadings
+pub mod inside
