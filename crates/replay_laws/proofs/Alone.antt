@@ -25,30 +25,30 @@ use Rattle.ring_model.specs.declared.notes.Offer.{Offer}
 use Rattle.setup_text.specs.declared.lines.Line.{Line}
 use Rattle.setup_text.specs.declared.lines.Line.TheVariants as lines
 
-abbrev Waiting : Type 0
+abbrev pub Waiting : Type 0
 Waiting = List (Option Frame)
 
-abbrev waits : Cpu → Waiting
+abbrev pub waits : Cpu → Waiting
 waits cpu = cpu.waiting
 
 -- ---- lists
 
-get_waits : (cpus : List Cpu) (cpu : ℕ) → (get_or cpus cpu no_cpu).waiting ≡ get_or (map waits cpus) cpu []
+pub get_waits : (cpus : List Cpu) (cpu : ℕ) → (get_or cpus cpu no_cpu).waiting ≡ get_or (map waits cpus) cpu []
 get_waits [] cpu = refl
 get_waits (first ∷ cpus) zero = refl
 get_waits (first ∷ cpus) (suc cpu) = get_waits cpus cpu
 
-set_waits : (cpus : List Cpu) (cpu : ℕ) (new : Cpu) → map waits (set cpus cpu new) ≡ set (map waits cpus) cpu new.waiting
+pub set_waits : (cpus : List Cpu) (cpu : ℕ) (new : Cpu) → map waits (set cpus cpu new) ≡ set (map waits cpus) cpu new.waiting
 set_waits [] cpu new = refl
 set_waits (first ∷ cpus) zero new = refl
 set_waits (first ∷ cpus) (suc cpu) new = ap (λ (ws : List Waiting). first.waiting ∷ ws) (set_waits cpus cpu new)
 
-set_back : (ws : List Waiting) (cpu : ℕ) → set ws cpu (get_or ws cpu []) ≡ ws
+pub set_back : (ws : List Waiting) (cpu : ℕ) → set ws cpu (get_or ws cpu []) ≡ ws
 set_back [] cpu = refl
 set_back (first ∷ ws) zero = refl
 set_back (first ∷ ws) (suc cpu) = ap (λ (ws : List Waiting). first ∷ ws) (set_back ws cpu)
 
-starts : (arriving : List Waiting)
+pub starts : (arriving : List Waiting)
     → map waits (map (λ waiting. record { waiting = waiting; present = 0; log = [] }) arriving) ≡ arriving
 starts [] = refl
 starts (waiting ∷ arriving) = ap (λ (ws : List Waiting). waiting ∷ ws) (starts arriving)
@@ -61,35 +61,35 @@ after-push steps [] one ring = refl
 after-push steps (first ∷ given) one ring = after-push steps given one (happened_by steps first ring)
 
 module _ (steps : RingSteps) where
-  abbrev of : List Happening → Ring
+  abbrev pub of : List Happening → Ring
   of given = all_happened_by steps given (fresh steps.size)
 
-  at_member : (all : List (List Happening)) (member : ℕ) (one : Happening)
+  pub at_member : (all : List (List Happening)) (member : ℕ) (one : Happening)
       → set (map of all) member (happened_by steps one (get_or (map of all) member no_ring)) ≡ map of (given_at member one all)
   at_member [] member one = refl
   at_member (given ∷ all) zero one =
       ap (λ (ring : Ring). ring ∷ map of all) (sym (after-push steps given one (fresh steps.size)))
   at_member (given ∷ all) (suc member) one = ap (λ (rings : List Ring). of given ∷ rings) (at_member all member one)
 
-  at_all : (all : List (List Happening)) (ms : ℕ)
+  pub at_all : (all : List (List Happening)) (ms : ℕ)
       → map (ticked steps ms) (map of all) ≡ map of (map (λ given. given ++ Tick ms ∷ []) all)
   at_all [] ms = refl
   at_all (given ∷ all) ms = cc (sym (after-push steps given (Tick ms) (fresh steps.size)), at_all all ms)
 
-  closes : (all : List (List Happening)) → map finished_ring (map of all) ≡ map (alone steps) all
+  pub closes : (all : List (List Happening)) → map finished_ring (map of all) ≡ map (alone steps) all
   closes [] = refl
   closes (given ∷ all) = ap (λ (rings : List Ring). finished_ring (of given) ∷ rings) (closes all)
 
-  opens : (count : ℕ) → replicate count (fresh steps.size) ≡ map of (replicate count [])
+  pub opens : (count : ℕ) → replicate count (fresh steps.size) ≡ map of (replicate count [])
   opens zero = refl
   opens (suc count) = ap (λ (rings : List Ring). fresh steps.size ∷ rings) (opens count)
 
   -- ---- a replay follows a deal
 
-  record Follows (deal : Deal) (replay : Replay) : Type 0 where
-    waiting : map waits replay.cpus ≡ deal.waiting
-    ticket : replay.ticket ≡ deal.ticket
-    members : replay.members ≡ map of deal.given
+  pub record Follows (deal : Deal) (replay : Replay) : Type 0 where
+    pub waiting : map waits replay.cpus ≡ deal.waiting
+    pub ticket : replay.ticket ≡ deal.ticket
+    pub members : replay.members ≡ map of deal.given
 
   module _ (rules : Rules) (rolls : rolls_over rules ≡ false) where
     home_any : (mode : Mode) (members hash ticket cpu queue present : ℕ) → (is_rollover mode || rules.backup) ≡ false
@@ -229,7 +229,7 @@ module _ (steps : RingSteps) where
 
 -- ---- rings of blocks
 
-as_blocks : (size : Size) (given : List Happening) (ring : Ring)
+pub as_blocks : (size : Size) (given : List Happening) (ring : Ring)
     → all_happened_by (block_steps size) given ring ≡ all_happened given ring
 as_blocks size [] ring = refl
 as_blocks size (Put offer ∷ given) ring = as_blocks size given (noted ring (note_of_put ring offer))

@@ -61,7 +61,7 @@ pub tick_note_held : (ms : ℕ) (found : Found) → one_held (held_number (Ticke
 tick_note_held ms (Held number) = refl
 tick_note_held ms found = refl
 
-set_helds : (rings : List Ring) (at : ℕ) (ring : Ring) → at < length rings
+pub set_helds : (rings : List Ring) (at : ℕ) (ring : Ring) → at < length rings
     → all_helds (set rings at ring) + helds (get_or rings at no_ring).notes ≡ all_helds rings + helds ring.notes
 set_helds [] at ring inside = absurd (omega arith)
 set_helds (first ∷ rings) zero ring inside = omega arith
@@ -81,7 +81,7 @@ noted_inside at note rings inside =
       helds-push (get_or rings at no_ring).notes note,
     )
 
-noted_grows : (at : ℕ) (note : Note) (rings : List Ring) → all_helds rings ≤ all_helds (noted_at at note rings)
+pub noted_grows : (at : ℕ) (note : Note) (rings : List Ring) → all_helds rings ≤ all_helds (noted_at at note rings)
 noted_grows at note rings = elim (cases_lt at (length rings)) [
   | inl inside ↦ omega (arith, noted_inside at note rings inside)
   | inr beyond ↦ omega (arith, set_beyond rings at (noted (get_or rings at no_ring) note) (omega arith))
@@ -92,7 +92,7 @@ released_helds : (ring : Ring) (released : ℕ) (later : Bool)
 released_helds ring released true = refl
 released_helds ring released false = refl
 
-read_grows : (steps : RingSteps) (at : ℕ) (rings : List Ring)
+pub read_grows : (steps : RingSteps) (at : ℕ) (rings : List Ring)
     → all_helds rings ≤ all_helds (set rings at (read_by steps (get_or rings at no_ring)))
 read_grows steps at rings =
     let ring = get_or rings at no_ring in
@@ -110,7 +110,7 @@ pub tick_one : (found : Option Found) (ms : ℕ) (ring : Ring)
 tick_one None ms ring = omega arith
 tick_one (Some found) ms ring = omega (arith, helds-push ring.notes (Ticked ms found), tick_note_held ms found)
 
-ticks_grow : (steps : RingSteps) (ms : ℕ) (rings : List Ring) → all_helds rings ≤ all_helds (map (ticked steps ms) rings)
+pub ticks_grow : (steps : RingSteps) (ms : ℕ) (rings : List Ring) → all_helds rings ≤ all_helds (map (ticked steps ms) rings)
 ticks_grow steps ms [] = omega arith
 ticks_grow steps ms (ring ∷ rings) = omega (arith, tick_one (steps.ticks ring ms) ms ring, ticks_grow steps ms rings)
 
@@ -219,7 +219,7 @@ never (note ∷ notes) h =
     let rest = never notes (All-tail IsFree note notes h) in
     omega (arith, none, rest)
 
-abbrev IsFreeRing : Ring → Type 0
+abbrev pub IsFreeRing : Ring → Type 0
 IsFreeRing ring = IsNeverHeld ring.notes
 
 pub all_never : (rings : List Ring) → All IsFreeRing rings → all_helds rings ≡ 0

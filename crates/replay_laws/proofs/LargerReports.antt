@@ -105,24 +105,24 @@ member_same shape blocks frames asked one other h =
 -- ---- reports of jobs
 
 -- what a kind of rings does, and what is reported of them
-record Kind : Type 0 where
-  steps : RingRequest → RingSteps
-  reported : RingRequest → Bool → Ring → MemberReport
+pub record Kind : Type 0 where
+  pub steps : RingRequest → RingSteps
+  pub reported : RingRequest → Bool → Ring → MemberReport
 
-abbrev of_blocks : Kind
+abbrev pub of_blocks : Kind
 of_blocks = record {
   steps = λ shape. block_steps (size_of shape);
   reported = λ shape asked. member_of (block_rules shape) asked;
 }
 
-abbrev of_slots : Kind
+abbrev pub of_slots : Kind
 of_slots = record {
   steps = λ shape. slot_steps (slot_size_of shape);
   reported = λ shape asked. member_of (slot_rules shape) asked;
 }
 
 -- the rules and arrivals of a setup, with the filter of a job
-abbrev lens_in : Job → Setup → Lens
+abbrev pub lens_in : Job → Setup → Lens
 lens_in job setup = record {
   key = setup.key;
   filter = job.program;
@@ -130,7 +130,7 @@ lens_in job setup = record {
   queue = λ cpu. queue_in (slice_get setup.cpus cpu);
 }
 
-abbrev reported_in : Kind → Lens → Setup → List Line → List (List ℕ) → List CpuEnd → RunReport
+abbrev pub reported_in : Kind → Lens → Setup → List Line → List (List ℕ) → List CpuEnd → RunReport
 reported_in kind lens setup lines all ends =
     report_with (kind.reported setup.shape setup.dump) all ends
     (replayed (rules_by setup.plan lens) (kind.steps setup.shape)
@@ -140,7 +140,8 @@ same_lens : (job other : Job) (setup : Setup) → other.program ≡ job.program 
 same_lens job other setup e = cc e
 
 -- the other job's report is that of the first one's setup with the other shape
-by_setup : (kind : Kind) (job other : Job) (blocks frames : ℕ) (lines : List Line) (all : List (List ℕ)) (ends : List CpuEnd)
+pub by_setup : (kind : Kind) (job other : Job) (blocks frames : ℕ) (lines : List Line) (all : List (List ℕ))
+    (ends : List CpuEnd)
     → IsReshaped blocks frames job other
     → reported_in kind (lens_in other other.setup) other.setup lines all ends
     ≡ reported_in kind (lens_in job job.setup)

@@ -9,3 +9,5 @@ pub mod Alone
 pub mod AlikeSlots
 pub mod Courses
 pub mod SlotDrops
+pub mod HomeTries
+pub mod Rollovers

@@ -67,6 +67,23 @@ pub fn members_stand_alone_without_rollover()
         (dealt rules size.room arriving lines) }
 {}
 
+/// While nothing is held, nothing rolls over: where no ring alone, each with what its member is
+/// given at home, finds a block (or slot) still the reader's, the rings of the group are these; and
+/// so they are where no ring of the group finds one. So a group with rollover never freezes exactly
+/// where each of its members alone doesn't.
+pub fn nothing_rolls_over_while_nothing_is_held()
+    ensures alone { (rules : Rules) (steps : RingSteps) (arriving : List (List (Option Frame)))
+        (lines : List Line)
+        → let rings = map (alone steps) (dealt rules steps.size.room arriving lines) in
+        All (λ ring. IsNeverHeld ring.notes) rings
+        → (replayed rules steps arriving lines).members ≡ rings }
+    ensures group { (rules : Rules) (steps : RingSteps) (arriving : List (List (Option Frame)))
+        (lines : List Line)
+        → All (λ ring. IsNeverHeld ring.notes) (replayed rules steps arriving lines).members
+        → (replayed rules steps arriving lines).members
+        ≡ map (alone steps) (dealt rules steps.size.room arriving lines) }
+{}
+
 /// What each member is given by a schedule is a course of a ring of any blocks: so what ring_laws
 /// says of runs holds of the rings of a replay without rollover.
 pub fn each_member_is_given_a_course()

@@ -1,0 +1,4 @@
+pub mod Paces
+pub mod Sizings
+pub mod LeastRings
+pub mod JobSizings
