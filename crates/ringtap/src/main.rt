@@ -1,7 +1,6 @@
 //! The program: its words, real files, standard output, and a status.
 #![tactic(auto)]
 
-mod arguments;
 mod program;
 
 use program::run_program;

@@ -2,7 +2,6 @@
 ghost use Rattle.std.specs.Prelude.{◌≡◌};
 ghost use Rattle.tap_engine.specs.Numbers.{number_of};
 
-use crate::arguments::words;
 use cpu_feeders::NoGate;
 use std::env::Env;
 use std::mem;
@@ -11,7 +10,8 @@ use std::rt::Files;
 use std::sync::Wait;
 use std::thread::Threads;
 use tap_engine::{Outcome, Status, run};
-use tap_outside::{DiskStore, History, StdSink, write_whole};
+use tap_outside::{DiskStore, History, StdSink};
+use tap_running::{print_memory, words};
 
 /// Carries out the command given by the program's arguments, over real files and standard output,
 /// and returns the program's exit status. A `capture` starts threads and may wait for them.
@@ -22,7 +22,7 @@ where
 {
     let Ok(words) = words(rt, rt.alloc(), &mut History::new()) else {
         // Printed as `run` prints it: once, if standard output takes it.
-        let _ = write_whole(&mut StdSink::new(rt), b"out of memory\n");
+        print_memory(&mut StdSink::new(rt));
         return ExitCode::from(Status::Memory.number());
     };
     let mut store = DiskStore::new(rt);

@@ -7,7 +7,8 @@ use Rattle.tap_outside.specs.Counts.{Rose}
 use Rattle.tap_outside.specs.Seen.{SinkSeen, StoreSeen}
 use Rattle.tap_engine.specs.inside.Answers.{IsAnswer}
 use Rattle.tap_engine.specs.Commands.{Named}
-use Rattle.tap_engine.specs.Conclusions.{IsCut, IsCutShort, IsLastLine, IsStopped, Tells}
+use Rattle.tap_engine.specs.Conclusions.{IsCut, IsCutShort, IsStopped, Tells}
+use Rattle.tap_running.specs.Prints.{IsLastLine}
 use Rattle.tap_engine.specs.Headline.{IsWorth}
 use Rattle.tap_engine.specs.InnerErrors.{IsOfCapture, IsOfTexts}
 use Rattle.tap_engine.specs.declared.outcomes.Outcome.{Outcome}

@@ -28,12 +28,17 @@ use Rattle.tap_reading.specs.Readers.{Says, setup_for}
 use Rattle.capture_reading.specs.Sources.{UnlessFault, WhereEnded, end_by}
 use Rattle.tap_saving.specs.Saves.{marked}
 use Rattle.tap_engine.specs.Commands.{Named, has_schedule}
-use Rattle.tap_engine.specs.Complete.{AreSoundLast, AreSoundTicks, AreWhole, IsComplete, IsSound}
-use Rattle.tap_engine.specs.Complete.{IsSoundFilter, IsSoundSchedule, NothingFails, text_in}
-use Rattle.tap_engine.specs.Conclusions.{IsDone, IsFailed, IsPrinted, Tells}
-use Rattle.tap_engine.specs.Findings.{IsFound, fault_at, faults_in, lines_of, report_in}
+use Rattle.tap_engine.specs.Complete.{AreSoundLast, AreSoundTicks, IsComplete, IsSound}
+use Rattle.tap_running.specs.Captures.{AreWhole}
+use Rattle.tap_running.specs.Texts.{IsSoundFilter, text_in}
+use Rattle.tap_engine.specs.Complete.{IsSoundSchedule, NothingFails}
+use Rattle.tap_engine.specs.Conclusions.{IsDone, IsFailed, Tells}
+use Rattle.tap_running.specs.Prints.{IsPrinted}
+use Rattle.tap_engine.specs.Findings.{IsFound, faults_in, lines_of, report_in}
+use Rattle.tap_running.specs.Captures.{fault_at}
 use Rattle.tap_engine.specs.Findings.{status_by_end, status_of, status_of_logs}
-use Rattle.tap_engine.specs.Headline.{AreCaptures, CapturesFor, GivenFor, IsCapture, IsHeadline}
+use Rattle.tap_running.specs.Captures.{AreCaptures, IsCapture}
+use Rattle.tap_engine.specs.Headline.{CapturesFor, GivenFor, IsHeadline}
 use Rattle.tap_engine.specs.Headline.{IsWorth, rules_for}
 use Rattle.tap_engine.specs.Jobs.{HasBadFilter, HasBadSchedule, HasBadText, HasBadTicks, HasSetup}
 use Rattle.tap_engine.specs.Jobs.{lines_for}
@@ -46,10 +51,15 @@ use Rattle.tap_engine.specs.declared.outcomes.Status.{Status}
 use Rattle.tap_engine.specs.declared.outcomes.Status.TheVariants as statuses
 use Rattle.tap_engine.specs.declared.sent_captures.Sending.{Sending}
 use Rattle.tap_engine.proofs.Ends.{AreEnds, report_ends}
-use Rattle.tap_engine.proofs.Fetched.{held_same, rose_less, saves_same}
+use Rattle.tap_running.proofs.Stores.{held_same, rose_less, saves_same}
 use Rattle.tap_engine.proofs.Found.{unread_rose}
-use Rattle.tap_engine.proofs.Texts.{filters, moments, not_both, same_value, says_held, schedules}
-use Rattle.tap_engine.proofs.Texts.{setups}
+use Rattle.tap_running.proofs.TextLimits.{filters, not_both, same_value, says_held}
+use Rattle.tap_engine.proofs.Texts.{moments, schedules}
+use Rattle.tap_running.proofs.TextLimits.{setups}
+use Rattle.tap_running.proofs.LastLines.{unprinted}
+use Rattle.tap_running.proofs.Stores.{none_rose}
+use Rattle.tap_running.proofs.TextLimits.{sound_filter}
+use Rattle.tap_running.proofs.Wholes.{none_faults, whole_end}
 
 worth_in : (old new : StoreSeen) (command : Option Named) (found : Finding)
     → IsFound command old new found
@@ -102,10 +112,6 @@ worth_of command outcome old new before after t =
     (ap (λ (s : StoreSeen). s.sources) t.concludes.touches.same)
     (worth_in old t.read command t.finding t.found))
 
-none_some : {A : Type 0} (o : Option A) (value : A) → o ≡ None → o ≡ Some value → ⊥
-none_some None value e f = cc
-none_some (Some x) value e f = cc
-
 -- ---- texts that are accepted aren't refused
 
 the_setup : (files : Contents) (named : Named) (sound : IsSound files named) (text : List ℕ)
@@ -113,19 +119,6 @@ the_setup : (files : Contents) (named : Named) (sound : IsSound files named) (te
 the_setup files named sound text setup has =
     same_value (setup_for named.command) files named.setup text sound.setup setup
     (setups named.command) sound.setup_is has
-
-sound_filter : (files : Contents) (filter : Option (List ℕ)) (name : List ℕ) (error : TextError)
-    → filter ≡ Some name → IsSoundFilter files filter → (filter_of (text_in files name) ≡ Err error)
-    → ⊥
-sound_filter files None name error e sound h = cc
-sound_filter files (Some x) name error e sound h = differ (sound.1)
-    (ap (λ n. filter_of (text_in files n)) (same e) ∙ h) where
-      same : ◌≡◌ {A = Option (List ℕ)} (Some x) (Some name) → x ≡ name
-      same e = cc
-
-      differ : filter_of (text_in files x) ≡ Ok sound.0
-          → filter_of (text_in files x) ≡ Err error → ⊥
-      differ a b = cc
 
 sound_ticks : (files : Contents) (ticks : Option (List ℕ)) (name : List ℕ) (error : TextError)
     → ticks ≡ Some name → AreSoundTicks files ticks → (moments_of (text_in files name) ≡ Err error)
@@ -207,72 +200,6 @@ no_text files old new named error held sound (inr (inr schedule)) = no_schedule 
     error held sound schedule
 
 -- ---- captures that are whole end whole
-
--- a capture that is cut shows where
-cut_place : (a b : Bool) (stop : ℕ) (damage : CaptureError)
-    → (if a then Some (Truncated 0) else if b then Some (Truncated stop) else None) ≡ Some damage
-    → (place : ℕ) × (damage ≡ Truncated place)
-cut_place true b stop damage e = (0, same e) where
-  same : ◌≡◌ {A = Option CaptureError} (Some (Truncated 0)) (Some damage) → damage ≡ Truncated 0
-  same e = cc
-cut_place false true stop damage e = (stop, same e) where
-  same : ◌≡◌ {A = Option CaptureError} (Some (Truncated stop)) (Some damage)
-      → damage ≡ Truncated stop
-  same e = cc
-cut_place false false stop damage e = cc
-
--- what ends a capture is damage, or a cut
-damage_or_cut : (bytes : List ℕ) (damage : CaptureError) → end_of bytes ≡ Some damage
-    → (damage_of bytes ≡ Some damage) ⊎ ((place : ℕ) × (damage ≡ Truncated place))
-unfolding end_of
-damage_or_cut bytes damage e = by (damage_of bytes) refl e where
-  by : (found : Option CaptureError) → damage_of bytes ≡ found
-      → option_or found (cut_of bytes) ≡ Some damage → (damage_of bytes ≡ Some damage)
-      ⊎ ((place : ℕ) × (damage ≡ Truncated place))
-  by None is e = inr (cut_place (lacks_header bytes) (nat_lt (stop_of bytes) (length bytes))
-      (stop_of bytes) damage e)
-  by (Some x) is e = inl (is ∙ e)
-
-damage_is : (damage other : CaptureError) → Damaged damage ≡ Damaged other → damage ≡ other
-damage_is damage other e = cc
-
--- damage ends a capture
-damage_end : (bytes : List ℕ) (damage : CaptureError) → damage_of bytes ≡ Some damage
-    → end_of bytes ≡ Some damage
-unfolding end_of
-damage_end bytes damage e = ap (λ d. option_or d (cut_of bytes)) e
-
--- a prefix of a whole capture that doesn't end whole isn't all of it
-pub whole_end : (content bytes rest : List ℕ) (end : CpuEnd) → content ≡ bytes ++ rest
-    → end_of content ≡ None
-    → UnlessFault end (end ≡ end_by (end_of bytes)) → WhereEnded end (bytes ≡ content) → end ≢ Fault
-    → end ≡ Whole
-whole_end content bytes rest Whole parts none is all sane = refl
-whole_end content bytes rest Fault parts none is all sane = absurd (sane refl)
-whole_end content bytes rest (Damaged damage) parts none is all sane = by (end_of bytes) refl is
-  where
-    wrong : (found : CaptureError) → end_of bytes ≡ Some found → damage ≡ found → ⊥
-    wrong found e same = at (damage_or_cut bytes damage (e ∙ ap Some (sym same))) where
-      at : (damage_of bytes ≡ Some damage) ⊎ ((place : ℕ) × (damage ≡ Truncated place)) → ⊥
-      at (inl damaged) =
-          none_some (end_of content) damage none (damage_end content damage
-          (ap damage_of parts ∙ (stays 0 bytes rest damage damaged).same))
-      at (inr cut) =
-          let same_bytes : bytes ≡ content = subst (λ (d : CaptureError). WhereEnded (Damaged d)
-          (bytes ≡ content)) cut.1 all in
-          none_some (end_of content) damage none
-          (ap end_of (sym same_bytes) ∙ e ∙ ap Some (sym same))
-
-    by : (found : Option CaptureError) → end_of bytes ≡ found → Damaged damage ≡ end_by found
-        → Damaged damage ≡ Whole
-    by None e is = is
-    by (Some found) e is = absurd (wrong found e (damage_is damage found is))
-
--- the ends of whole captures, if none ended with a fault
-none_faults : (end : CpuEnd) → fault_at end ≡ 0 → end ≢ Fault
-none_faults Whole none e = cc
-none_faults Fault none e = omega (arith, none)
-none_faults (Damaged damage) none e = cc
 
 behind_whole : (cpu : ℕ) (end : CpuEnd) (rest : Status) → end ≡ Whole → rest ≡ statuses.Fine
     → status_by_end cpu end rest ≡ statuses.Fine
@@ -374,13 +301,6 @@ fine_sending files old new named setup sending held sound h none =
     capture.all (none_faults sending.end none))
     refl
 
--- no fault rose, so none was counted
-none_rose : (n before now : ℕ) → (RoseBy 1 before now → ⊥) → RoseBy n before now → n ≡ 0
-none_rose n before now sane h = by (cases_lt 0 n) where
-  by : (0 < n) ⊎ (n ≤ 0) → n ≡ 0
-  by (inl some) = absurd (sane (rose_less 1 n before now (omega (arith, some)) h))
-  by (inr none) = omega (arith, none)
-
 fine_found : (files : Contents) (named : Named) (old new : StoreSeen) (found : Finding)
     → old.held ≡ Some files → IsSound files named
     → (RoseBy 1 old.read_faults new.read_faults → ⊥) → IsFound (Some named) old new found
@@ -402,12 +322,6 @@ fine_found files named old new (finding.Ran rings setup report forwards) is soun
 fine_found files named old new (finding.Sent setup sending) is sound sane h =
     fine_sending files old new named setup sending is sound h.0
     (none_rose (fault_at sending.end) old.read_faults new.read_faults sane h.1.rose)
-
-unprinted : (before after : SinkSeen) (lines : List ℕ) (printed : Bool) → printed ≡ false
-    → IsPrinted before after lines printed
-    → RoseBy 1 before.faults after.faults
-unprinted before after lines true e h = cc
-unprinted before after lines false e h = h.0
 
 -- a fault of saving or printing was counted
 failed_count : (found : Finding) (status : Status) (old new : StoreSeen) (before after : SinkSeen)

@@ -10,7 +10,8 @@ use Rattle.tap_outside.specs.Seen.{SinkSeen, StoreSeen}
 use Rattle.tap_saving.specs.Files.{File}
 use Rattle.tap_saving.specs.Saves.{AllUnless, HoldAll, HoldUnless, HoldsNow, HoldsOldOrNew}
 use Rattle.tap_saving.specs.Saves.{KeepsAllBut, Saved, SavedSome, Touches, marked}
-use Rattle.tap_engine.specs.Conclusions.{Concludes, IsDone, IsFailed, IsPrinted}
+use Rattle.tap_engine.specs.Conclusions.{Concludes, IsDone, IsFailed}
+use Rattle.tap_running.specs.Prints.{IsPrinted}
 use Rattle.tap_engine.specs.Findings.{files_of, lines_of, status_by_end}
 use Rattle.tap_engine.specs.Findings.{status_of, status_of_logs}
 use Rattle.tap_engine.specs.declared.findings.Finding.{Finding}

@@ -13,81 +13,22 @@ use Rattle.setup_text.specs.declared.cpu_setups.CpuSetup.{CpuSetup}
 use Rattle.tap_outside.specs.Contents.{Contents}
 use Rattle.tap_outside.specs.Counts.{Rose}
 use Rattle.tap_outside.specs.Seen.{NoReadFailed, OnlyReads, SourceSeen, StoreSeen}
-use Rattle.tap_engine.specs.Faults.{IsCounted}
-use Rattle.tap_engine.specs.Findings.{fault_at, faults_in}
+use Rattle.tap_running.specs.Counts.{IsCounted}
+use Rattle.tap_running.specs.Captures.{fault_at}
+use Rattle.tap_engine.specs.Findings.{faults_in}
 use Rattle.tap_engine.specs.inside.Sources.{AreFetched, faulty_in, missing_in}
 use Rattle.tap_engine.proofs.Ends.{AreEnds}
-use Rattle.tap_engine.proofs.Fetched.{faults_are, fetched_more, map_more, missing_more, one_more}
-use Rattle.tap_engine.proofs.Fetched.{rose_earlier, rose_less, rose_then, unfailed_then}
+use Rattle.tap_engine.proofs.Fetched.{faults_are, fetched_more, missing_more}
+use Rattle.tap_running.proofs.Growing.{map_more, one_more}
+use Rattle.tap_running.proofs.Stores.{rose_earlier, rose_less, rose_then, unfailed_then}
+use Rattle.tap_running.proofs.Captures.{fault_is, unfaulted}
+use Rattle.tap_running.proofs.Counted.{closed_by, counts_less, counts_none, counts_then, no_sum, reads_none}
 
 -- ---- a store from which nothing was read
 
-reads_none : (a : StoreSeen) → OnlyReads a a
-reads_none a = record { same = refl; later = omega arith }
-
-pub unfailed_none : (a : StoreSeen) → NoReadFailed a a
-unfailed_none a = record { only = reads_none a; exact = λ is. refl }
-
-pub unfailed_same : (a b : StoreSeen) → b ≡ a → NoReadFailed a b
-unfailed_same a b same = subst (λ (s : StoreSeen). NoReadFailed a s) (sym same) (unfailed_none a)
-
-unfailed_by : (faults : ℕ) (a b : StoreSeen) → OnlyReads a b
-    → (faults ≡ 0 → b.read_faults ≡ a.read_faults) → faults ≡ 0 → NoReadFailed a b
-unfailed_by faults a b only kept none = record { only = only; exact = λ is. kept none }
-
-pub counts_none : (n : ℕ) (a : StoreSeen) → n ≡ 0 → IsCounted a a n
-counts_none n a none = record { rose = omega (arith, none); faultless = λ zero. unfailed_none a }
-
 -- ---- one after another
 
-no_sum : (x y : ℕ) → x + y ≡ 0 → (x ≡ 0) × (y ≡ 0)
-no_sum x y none = (omega (arith, none), omega (arith, none))
-
-pub counts_then : (x y : ℕ) (a b c : StoreSeen) → IsCounted a b x → IsCounted b c y
-    → IsCounted a c (x + y)
-counts_then x y a b c h k = record {
-  rose = rose_then x y a.read_faults b.read_faults c.read_faults h.rose k.rose;
-  faultless = λ none. let both = no_sum x y none in
-      unfailed_then a b c (h.faultless both.0) (k.faultless both.1);
-}
-
--- fewer faults, but none only if there was none
-pub counts_less : (x y : ℕ) (a b : StoreSeen) → x ≤ y → (x ≡ 0 → y ≡ 0) → IsCounted a b y
-    → IsCounted a b x
-counts_less x y a b less none h = record {
-  rose = rose_less x y a.read_faults b.read_faults less h.rose;
-  faultless = λ zero. h.faultless (none zero);
-}
-
--- if no read had failed before
-pub counts_later : (n : ℕ) (a b c : StoreSeen) → NoReadFailed a b → IsCounted b c n
-    → IsCounted a c n
-counts_later n a b c before h = record {
-  rose = rose_earlier n a b c before.only h.rose;
-  faultless = λ none. unfailed_then a b c before (h.faultless none);
-}
-
 -- ---- a fetch, and a close
-
-pub counts_fetched : (a b : StoreSeen) → NoReadFailed a b → IsCounted a b 0
-counts_fetched a b none = record {
-  rose = let later = none.only.later in omega (arith, later);
-  faultless = λ zero. none;
-}
-
-pub counts_missing : (a b : StoreSeen) → Rose a.read_faults b.read_faults → IsCounted a b 1
-counts_missing a b rose =
-    record { rose = rose; faultless = λ zero. absurd (omega (arith, zero)) }
-
-closed_by : (faults : ℕ) (b : Bool) (old new : StoreSeen) → (faults == 0) ≡ b → OnlyReads old new
-    → (faults ≡ 0 → new.read_faults ≡ old.read_faults)
-    → (0 < faults → Rose old.read_faults new.read_faults)
-    → IsCounted old new ((if b then 0 else 1) + 0)
-closed_by faults true old new is only kept rose =
-    counts_fetched old new (unfailed_by faults old new only kept (eqb-true faults 0 is))
-closed_by faults false old new is only kept rose =
-    let some = eqb-false faults 0 is in
-    counts_missing old new (rose (omega (arith, some)))
 
 pub counts_closed : (source : SourceSeen) (a b : StoreSeen) → OnlyReads a b
     → (source.faults ≡ 0 → b.read_faults ≡ a.read_faults)
@@ -147,15 +88,6 @@ closes_one seen all left rest source n a b c counted is h k =
     )
 
 -- ---- a run's CPUs
-
--- if no CPU ended with a fault each capture was fetched, and no read of it failed
-fault_is : (end : CpuEnd) → end ≡ Fault → fault_at end ≡ 1
-fault_is end is = ap fault_at is
-
-unfaulted : (end : CpuEnd) (P : Type 0) → fault_at end ≡ 0 → UnlessFault end P → P
-unfaulted Whole P none h = h
-unfaulted Fault P none h = absurd (omega (arith, none))
-unfaulted (Damaged damage) P none h = h
 
 abbrev faulty_by : ℕ → ℕ
 faulty_by faults = if faults == 0 then 0 else 1

@@ -11,7 +11,8 @@ use Rattle.tap_saving.proofs.Stores.{read_faults_touched}
 use Rattle.tap_engine.specs.Commands.{Named}
 use Rattle.tap_engine.specs.Conclusions.{IsDone, IsFailed, Tells}
 use Rattle.tap_engine.specs.Faults.{IsFaultless, NoneCounted}
-use Rattle.tap_engine.specs.Findings.{IsFound, fault_at, faults_in, status_by_end, status_of}
+use Rattle.tap_engine.specs.Findings.{IsFound, faults_in, status_by_end, status_of}
+use Rattle.tap_running.specs.Captures.{fault_at}
 use Rattle.tap_engine.specs.Findings.{status_of_logs}
 use Rattle.tap_engine.specs.Jobs.{HasBadText}
 use Rattle.tap_engine.specs.declared.findings.Finding.{Finding}
@@ -19,7 +20,7 @@ use Rattle.tap_engine.specs.declared.findings.Finding.TheVariants as finding
 use Rattle.tap_engine.specs.declared.outcomes.Outcome.{Outcome}
 use Rattle.tap_engine.specs.declared.outcomes.Status.{Status}
 use Rattle.tap_engine.specs.declared.outcomes.Status.TheVariants as statuses
-use Rattle.tap_engine.proofs.Fetched.{exact_same, saves_same}
+use Rattle.tap_running.proofs.Stores.{exact_same, saves_same}
 
 -- ---- the ends of CPUs
 

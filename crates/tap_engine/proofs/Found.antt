@@ -27,7 +27,8 @@ use Rattle.tap_engine.specs.Commands.{Named, has_schedule, sends}
 use Rattle.tap_engine.specs.Findings.{IsFound, IsReady, IsReported, IsSentBy, finding_of, names_of}
 use Rattle.tap_engine.specs.Headline.{CapturesFor, IsHeadline, rules_for}
 use Rattle.tap_engine.specs.Given.{Texts, first_texts}
-use Rattle.tap_engine.specs.Jobs.{CantReadNext, CantReadText, HasSetup, IsAsked, IsLoaded, Stops}
+use Rattle.tap_running.specs.Texts.{CantReadNext}
+use Rattle.tap_engine.specs.Jobs.{CantReadText, HasSetup, IsAsked, IsLoaded, Stops}
 use Rattle.tap_engine.specs.Jobs.{lines_for}
 use Rattle.tap_engine.specs.Conclusions.{IsCut, IsSearched}
 use Rattle.tap_engine.specs.declared.findings.Finding.{Finding}
@@ -35,66 +36,14 @@ use Rattle.tap_engine.specs.declared.findings.Finding.TheVariants as finding
 use Rattle.tap_engine.specs.Names.{AreMeant, AreMeantToRead, AreMeantToSave, filter_for}
 use Rattle.tap_engine.specs.Names.{names_to_read, saved_for, ticks_for}
 use Rattle.tap_engine.proofs.Ends.{report_members}
-use Rattle.tap_engine.proofs.Fetched.{held_same, rose_earlier, to_read_same, to_save_same}
-use Rattle.tap_engine.proofs.Fetched.{unfailed_then}
-use Rattle.tap_engine.proofs.Given.{read_none, read_then}
-use Rattle.tap_engine.proofs.Meant.{AllMeant, Untold, outputs_meant}
-
-pub if_ok : {A E : Type 0} (P Q : A → Type 0) (result : Result A E) → ((x : A) → P x → Q x)
-    → IfOk result P → IfOk result Q
-if_ok P Q (Ok x) f p = f x p
-if_ok P Q (Err e) f p = p
-
-pub if_err : {A E : Type 0} (P Q : E → Type 0) (result : Result A E) → ((e : E) → P e → Q e)
-    → IfErr result P → IfErr result Q
-if_err P Q (Ok x) f p = p
-if_err P Q (Err e) f p = f e p
-
-pub on_err : {A E : Type 0} (P Q : Type 0) (result : Result A E) → (P → Q) → OnErr result P
-    → OnErr result Q
-on_err P Q (Ok x) f p = p
-on_err P Q (Err e) f p = f p
-
-pub on_errs : {A E : Type 0} (P Q R : Type 0) (result : Result A E) → (P → Q → R)
-    → OnErr result P → OnErr result Q → OnErr result R
-on_errs P Q R (Ok x) f p q = p
-on_errs P Q R (Err e) f p q = f p q
-
-pub err_with : {A E : Type 0} (P : Type 0) (result : Result A E) → P → OnErr result P
-err_with P (Ok x) p = tt
-err_with P (Err e) p = p
-
-pub of_ok : {A E : Type 0} (P : A → Type 0) (result : Result A E) (x : A) → result ≡ Ok x
-    → IfOk result P → P x
-of_ok {A} {E} P result x is p = subst (λ (r : Result A E). IfOk r P) is p
+use Rattle.tap_running.proofs.Stores.{held_same, rose_earlier, to_read_same, to_save_same}
+use Rattle.tap_running.proofs.Stores.{unfailed_then}
+use Rattle.tap_running.proofs.TextOrder.{read_none, read_then}
+use Rattle.tap_running.proofs.MeantNames.{AllMeant, Untold}
+use Rattle.tap_engine.proofs.Meant.{outputs_meant}
+use Rattle.tap_running.proofs.TextOrder.{next_rose, ran_out_later, refuses_earlier, unread_next}
 
 -- ---- why a text stops a command, from its start
-
-refuses_earlier : {A E : Type 0} (reader : List ℕ → Result A E) (wanted : E → Bool)
-    (old mid new : StoreSeen) (texts : List Entry) (name : List ℕ) (error : E)
-    → ReadTexts old mid texts → Refuses reader wanted [] mid new name error
-    → Refuses reader wanted texts old new name error
-refuses_earlier reader wanted old mid new texts name error before h = record {
-  text = h.text;
-  texts = read_then old mid new texts (text_entry name h.text ∷ []) before h.texts;
-  says = subst (λ (held : Option Contents). Says reader held name h.text (Err error))
-      (held_same old mid before.unfailed.only) h.says;
-  not_memory = h.not_memory;
-}
-
-unread_next : (start old new : StoreSeen) (texts : List Entry) (name : List ℕ)
-    → ReadTexts start old texts → CantRead old new name → CantReadNext start new texts name
-unread_next start old new texts name read unread =
-    record { before = old; read_is = read; unread = unread }
-
--- memory ran out after these texts
-ran_out_later : (start old new : StoreSeen) (texts : List Entry) → ReadTexts start old texts
-    → RanOut old new → RanOut start new
-ran_out_later start old new texts read h = record {
-  unfailed = unfailed_then start old new read.unfailed h.unfailed;
-  closed = none_open_then start.sources old.sources new.sources
-      (none_open start.sources old.sources texts read.took) h.closed;
-}
 
 pub at_setup : (old new : StoreSeen) (named : Named) (stop : Stop)
     → StopsAtSetup named.command old new named.setup stop → Stops old new named stop
@@ -200,12 +149,6 @@ meant_later old new command reads all =
     (sym (to_read_same old new reads)) all)
 
 -- ---- a text that can't be read
-
--- comes only where reading failed
-next_rose : (old new : StoreSeen) (texts : List Entry) (name : List ℕ)
-    → CantReadNext old new texts name → RoseBy 1 old.read_faults new.read_faults
-next_rose old new texts name h =
-    rose_earlier 1 old h.before new h.read_is.unfailed.only h.unread.rose
 
 pub unread_rose : (old new : StoreSeen) (named : Named) → CantReadText old new named
     → RoseBy 1 old.read_faults new.read_faults

@@ -12,25 +12,19 @@ use Rattle.tap_outside.specs.Seen.{entry_of}
 use Rattle.tap_outside.specs.Seen.{missed_entry}
 use Rattle.tap_outside.proofs.Taken.{entry_failed, entry_unfailed, opened_then, took_as, took_none, took_then}
 use Rattle.tap_reading.specs.Fronts.{ReadTexts}
-use Rattle.tap_engine.specs.Given.{AreEntries, AreGiven, capture_entry, given_entries, has_failed, missing_entries}
-use Rattle.tap_engine.specs.Faults.{IsCounted}
-use Rattle.tap_engine.specs.inside.Sources.{AreFetched, Fetches, IsFresh, entries_of, missing_in, opened_files}
+use Rattle.tap_engine.specs.Given.{AreEntries, AreGiven, given_entries, missing_entries}
+use Rattle.tap_running.specs.Captures.{capture_entry, has_failed}
+use Rattle.tap_running.specs.Counts.{IsCounted}
+use Rattle.tap_engine.specs.inside.Sources.{AreFetched, Fetches, entries_of, missing_in, opened_files}
+use Rattle.tap_running.specs.Captures.{IsFresh}
 use Rattle.tap_engine.specs.inside.Sources.{with_closed}
 use Rattle.tap_outside.proofs.Kept.{OnlyReads-none}
-use Rattle.tap_engine.proofs.Counted.{counts_none, unfailed_none}
-use Rattle.tap_engine.proofs.Fetched.{map_more, one_more, unfailed_then}
+use Rattle.tap_running.proofs.Counted.{counts_none, unfailed_none}
+use Rattle.tap_running.proofs.Growing.{map_more, one_more}
+use Rattle.tap_running.proofs.Stores.{unfailed_then}
+use Rattle.tap_running.proofs.Captures.{entry_given}
 
 -- ---- texts, one after the other
-
-pub read_none : (a : StoreSeen) → ReadTexts a a []
-read_none a = record { unfailed = unfailed_none a; took = took_none a.sources }
-
-pub read_then : (a b c : StoreSeen) (xs ys : List Entry) → ReadTexts a b xs → ReadTexts b c ys
-    → ReadTexts a c (xs ++ ys)
-read_then a b c xs ys h k = record {
-  unfailed = unfailed_then a b c h.unfailed k.unfailed;
-  took = took_then a.sources b.sources c.sources xs ys h.took k.took;
-}
 
 -- ---- the captures that are fetched
 
@@ -149,25 +143,6 @@ closes_all now all is = closes_nothing now ∙ is
 pub two : {A : Type 0} (x y : A) (xs ys : List A) → x ≡ y → xs ≡ ys → x ∷ xs ≡ y ∷ ys
 two x y xs ys e f = ap (λ z. z ∷ xs) e ∙ ap (λ zs. y ∷ zs) f
 
--- a source that was fresh gave these bytes, and no others
-gave_all : (first given bytes : List ℕ) → first ≡ [] → given ≡ first ++ bytes → given ≡ bytes
-gave_all first given bytes fresh is = is ∙ ap (λ b. b ++ bytes) fresh
-
--- so that its entry is that of its capture
-entry_given : (held : Option Contents) (cpu : CpuSetup) (o n : SourceSeen) (bytes : List ℕ)
-    (end : CpuEnd) → IsFresh held cpu.file o → Gave o n bytes end
-    → entry_of n ≡ capture_entry cpu.file true bytes end
-entry_given held cpu o n bytes Whole fresh gave =
-    entry_unfailed n cpu.file bytes (gave.name_is ∙ fresh.named)
-    (gave_all o.given n.given bytes fresh.unread gave.given_is) (gave.faultless ∙ fresh.faultless)
-entry_given held cpu o n bytes (Damaged damage) fresh gave =
-    entry_unfailed n cpu.file bytes (gave.name_is ∙ fresh.named)
-    (gave_all o.given n.given bytes fresh.unread gave.given_is) (gave.faultless ∙ fresh.faultless)
-entry_given held cpu o n bytes Fault fresh gave =
-    entry_failed n cpu.file bytes (gave.name_is ∙ fresh.named)
-    (gave_all o.given n.given bytes fresh.unread gave.given_is)
-    (let none = fresh.faultless in let rose = gave.fault in omega (arith, none, rose))
-
 -- what a run's sources were and are: those that are missing stay so, and the others gave their
 -- entries
 record AreClosed (cpus : List CpuSetup) (old new : List (Option SourceSeen))
@@ -204,7 +179,7 @@ are_closed held (cpu ∷ cpus) (Some o ∷ old) (None ∷ new) (b ∷ bytes) (en
     absurd gave.0
 are_closed held (cpu ∷ cpus) (Some o ∷ old) (Some n ∷ new) (b ∷ bytes) (end ∷ ends) fetched gave =
     let rest = are_closed held cpus old new bytes ends fetched.1 gave.1 in
-    let entry = entry_given held cpu o n b end fetched.0 gave.0 in
+    let entry = entry_given held cpu.file o n b end fetched.0 gave.0 in
     record {
       missing = rest.missing;
       unopened = rest.unopened;

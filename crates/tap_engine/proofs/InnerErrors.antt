@@ -21,7 +21,8 @@ use Rattle.tap_outside.specs.Seen.{SinkSeen, StoreSeen}
 use Rattle.tap_engine.specs.Commands.{Named}
 use Rattle.tap_engine.specs.Conclusions.{IsDone, IsFailed, Tells}
 use Rattle.tap_engine.specs.Findings.{IsFound, report_in, status_by_end, status_of, status_of_logs}
-use Rattle.tap_engine.specs.Headline.{AreCaptures, CapturesFor, IsHeadline, rules_for}
+use Rattle.tap_running.specs.Captures.{AreCaptures}
+use Rattle.tap_engine.specs.Headline.{CapturesFor, IsHeadline, rules_for}
 use Rattle.tap_engine.specs.InnerErrors.{HoldsNoMemory, IsOfCapture, IsOfTexts}
 use Rattle.tap_engine.specs.declared.findings.Finding.{Finding}
 use Rattle.tap_engine.specs.declared.findings.Finding.TheVariants as finding

@@ -1,3 +1,4 @@
+pub mod Names
 pub mod Texts
 pub mod Ends
 pub mod Fetched
@@ -14,6 +15,5 @@ pub mod MadeRuns
 pub mod InnerErrors
 pub mod Worked
 pub mod Answered
-pub mod Printed
 pub mod Returned
 pub mod Forwarded

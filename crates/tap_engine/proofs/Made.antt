@@ -21,10 +21,11 @@ use Rattle.tap_outside.specs.Seen.{SourceSeen, SourcesSeen, StoreSeen}
 use Rattle.run_reports.specs.declared.ring_kind.RingKind.{RingKind}
 use Rattle.run_reports.specs.declared.ring_kind.RingKind.TheVariants.{Blocks}
 use Rattle.tap_engine.specs.Commands.{Named, has_schedule, is_threaded, rings_of}
-use Rattle.tap_engine.specs.Faults.{IsCounted}
+use Rattle.tap_running.specs.Counts.{IsCounted}
 use Rattle.tap_engine.specs.Findings.{IsReported, IsSmall, faults_in}
 use Rattle.tap_engine.specs.Given.{AreGiven, Texts, given_entries}
-use Rattle.tap_engine.specs.Headline.{AreCaptures, CapturesFor, GivenFor, IsCaptureOf, IsReplayOf}
+use Rattle.tap_running.specs.Captures.{AreCaptures}
+use Rattle.tap_engine.specs.Headline.{CapturesFor, GivenFor, IsCaptureOf, IsReplayOf}
 use Rattle.tap_engine.specs.Headline.{IsRunOf, rules_for}
 use Rattle.tap_engine.specs.Jobs.{HasLines, HasTicks, IsRead}
 use Rattle.replay_machine.specs.Runs.{report_of}
@@ -33,7 +34,8 @@ use Rattle.tap_engine.specs.inside.Replays.{IsReplayedBy, IsReportBy}
 use Rattle.tap_engine.specs.inside.Sources.{AreFetched, Fetches, entries_of, faulty_in, missing_in, with_closed}
 use Rattle.tap_engine.proofs.Ends.{as_many_logs, report_ends, report_members}
 use Rattle.tap_engine.proofs.Counted.{counts_run}
-use Rattle.tap_engine.proofs.Fetched.{bytes_as_many, captures_are, held_same}
+use Rattle.tap_engine.proofs.Fetched.{bytes_as_many, captures_are}
+use Rattle.tap_running.proofs.Stores.{held_same}
 use Rattle.tap_engine.proofs.Given.{run_given}
 
 -- what holds of the report of a job that was replayed over these sources

@@ -28,12 +28,13 @@ use Rattle.tap_outside.specs.Sources.{SureSourceState, seen_sure_source, unread_
 use Rattle.run_reports.specs.declared.ring_kind.RingKind.TheVariants.{Blocks}
 use Rattle.run_reports.specs.RingRules.{block_rules}
 use Rattle.tap_engine.specs.Commands.{Named}
-use Rattle.tap_engine.specs.Findings.{IsReported, IsSmall, fault_at, faults_in}
+use Rattle.tap_engine.specs.Findings.{IsReported, IsSmall, faults_in}
+use Rattle.tap_running.specs.Captures.{fault_at}
 use Rattle.tap_engine.specs.Given.{Texts}
 use Rattle.tap_engine.specs.Headline.{AreMade}
 use Rattle.tap_engine.specs.inside.Replays.{IsReplayedBy}
 use Rattle.tap_engine.specs.Jobs.{HasLines, IsRead, LinesFor}
-use Rattle.tap_engine.proofs.Complete.{whole_end}
+use Rattle.tap_running.proofs.Wholes.{whole_end}
 use Rattle.tap_engine.proofs.Ends.{AreEnds, report_ends}
 use Rattle.tap_engine.proofs.Given.{two}
 use Rattle.tap_engine.proofs.Made.{make_reported, replays}

@@ -13,20 +13,8 @@ use Rattle.tap_engine.specs.Commands.{Named}
 use Rattle.tap_engine.specs.Jobs.{HasSetup}
 use Rattle.tap_engine.specs.Names.{AreMeant, filter_for, names_to_read, names_to_save, read_after}
 use Rattle.tap_engine.specs.Names.{read_by, read_last, saved_by, saved_for, setup_held, ticks_for}
-use Rattle.tap_engine.proofs.Texts.{says_held, setups}
-
--- each of these names is meant
-abbrev pub AllMeant : (List ℕ → Bool) → List (List ℕ) → Type 0
-AllMeant meant names = AllByRecursion (λ name. IsTrue (meant name)) names
-
--- every name of a store that doesn't report what it holds
-abbrev pub Untold : Option Contents → (List ℕ → Bool) → Type 0
-Untold held meant = (name : List ℕ) → held ≡ None → IsTrue (meant name)
-
-any_name : (meant : List ℕ → Bool) (names : List (List ℕ)) → ((name : List ℕ) → IsTrue (meant name))
-    → AllMeant meant names
-any_name meant [] any = tt
-any_name meant (name ∷ names) any = (any name, any_name meant names any)
+use Rattle.tap_running.proofs.TextLimits.{says_held, setups}
+use Rattle.tap_running.proofs.MeantNames.{AllMeant, Untold, any_name, option_meant}
 
 first_meant : (meant : List ℕ → Bool) (named : Named) (setup : Result Setup SetupError)
     → AllMeant meant (read_by named setup) → IsTrue (meant named.setup)
@@ -57,12 +45,6 @@ after_meant (Some files) meant named text setup untold all has =
     (subst (λ (s : Result Setup SetupError). AllMeant meant (read_by named s))
     (held_setup files named text setup has) all).1
 
-option_meant : (meant : List ℕ → Bool) (name : Option (List ℕ)) (names : List (List ℕ))
-    → AllMeant meant (option_to_list name ++ names)
-    → IfSome name (λ name. IsTrue (meant name)) × AllMeant meant names
-option_meant meant None names all = (tt, all)
-option_meant meant (Some name) names all = (all.0, all.1)
-
 -- the filter, the moments, and what is read last
 pub record AfterMeant (meant : List ℕ → Bool) (named : Named) (setup : Setup) : Type 0 where
   pub filter : IfSome (filter_for named.command setup) (λ name. IsTrue (meant name))
@@ -79,28 +61,6 @@ names_meant held meant named text setup untold all has =
     (after_meant held meant named text setup untold all has) in
     let ticks = option_meant meant (ticks_for named.command setup) _ filter.1 in
     record { filter = filter.0; ticks = ticks.0; last = ticks.1 }
-
--- also if the name is borrowed
-pub lent_meant : {A : Type 0} (meant : List ℕ → Bool) (now : A → List ℕ) (lent : Option A)
-    (name : Option (List ℕ))
-    → option_map now lent ≡ name
-    → IfSome name (λ name. IsTrue (meant name)) → IfSome lent (λ word. IsTrue (meant (now word)))
-lent_meant meant now None name is all = tt
-lent_meant meant now (Some word) name is all =
-    subst (λ (o : Option (List ℕ)). IfSome o (λ name. IsTrue (meant name))) (sym is) all
-
-files_meant : (meant : List ℕ → Bool) (cpus : List CpuSetup)
-    → AllMeant meant (map (λ cpu. cpu.file) cpus)
-    → AllByRecursion (λ cpu. IsTrue (meant cpu.file)) cpus
-files_meant meant [] all = tt
-files_meant meant (cpu ∷ cpus) all = (all.0, files_meant meant cpus all.1)
-
-pub captures_meant : (meant : List ℕ → Bool) (cpus : List CpuSetup)
-    → AllMeant meant (map (λ cpu. cpu.file) cpus)
-    → All (λ cpu. IsTrue (meant cpu.file)) cpus
-captures_meant meant cpus all =
-    All-from_recursion (λ (cpu : CpuSetup). IsTrue (meant cpu.file)) cpus
-    (files_meant meant cpus all)
 
 -- and what is saved is meant for saving
 pub outputs_meant : (held : Option Contents) (meant : List ℕ → Bool) (named : Named)

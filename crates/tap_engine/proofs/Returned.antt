@@ -12,19 +12,11 @@ use Rattle.tap_reading.specs.Fronts.{ReadTexts}
 use Rattle.tap_engine.specs.Commands.{Named}
 use Rattle.tap_engine.specs.Findings.{IsFound}
 use Rattle.tap_engine.specs.Headline.{GivenFor}
-use Rattle.tap_engine.specs.Jobs.{CantReadNext, CantReadText, HasBadText}
+use Rattle.tap_running.specs.Texts.{CantReadNext}
+use Rattle.tap_engine.specs.Jobs.{CantReadText, HasBadText}
 use Rattle.tap_engine.specs.declared.findings.Finding.{Finding}
 use Rattle.tap_engine.specs.declared.findings.Finding.TheVariants as finding
-
-read_closed : (old new : StoreSeen) (texts : List Entry) → ReadTexts old new texts
-    → NoneOpen old.sources new.sources
-read_closed old new texts read = none_open old.sources new.sources texts read.took
-
-next_closed : (old new : StoreSeen) (texts : List Entry) (name : List ℕ)
-    → CantReadNext old new texts name → NoneOpen old.sources new.sources
-next_closed old new texts name h =
-    none_open_then old.sources h.before.sources new.sources (read_closed old h.before texts h.read_is)
-    (none_open h.before.sources new.sources _ h.unread.took)
+use Rattle.tap_running.proofs.TextOrder.{next_closed, read_closed}
 
 unread_closed : (old new : StoreSeen) (named : Named) → CantReadText old new named
     → NoneOpen old.sources new.sources

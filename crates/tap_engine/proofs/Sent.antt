@@ -19,14 +19,16 @@ use Rattle.tap_outside.specs.Records.{Took}
 use Rattle.tap_outside.specs.Seen.{SourceSeen, StoreSeen}
 use Rattle.tx_ring.specs.Transmission.{before_long, is_fitting, is_long, plain_packets, reached}
 use Rattle.tx_ring.specs.Transmission.{transmitted_of}
-use Rattle.tap_engine.specs.Faults.{IsCounted}
-use Rattle.tap_engine.specs.Findings.{fault_at}
-use Rattle.tap_engine.specs.Headline.{IsCapture}
+use Rattle.tap_running.specs.Counts.{IsCounted}
+use Rattle.tap_running.specs.Captures.{fault_at}
+use Rattle.tap_running.specs.Captures.{IsCapture}
 use Rattle.tap_engine.specs.Names.{first_file}
 use Rattle.tap_engine.specs.Sendings.{IsFirst}
-use Rattle.tap_engine.specs.Given.{capture_entry, given_entries}
+use Rattle.tap_running.specs.Captures.{capture_entry}
+use Rattle.tap_engine.specs.Given.{given_entries}
 use Rattle.tap_engine.specs.inside.Sources.{AreFetched, Fetches, entries_of, faulty_in, missing_in, with_closed}
-use Rattle.tap_engine.proofs.Counted.{counts_less, counts_run}
+use Rattle.tap_running.proofs.Counted.{counts_less}
+use Rattle.tap_engine.proofs.Counted.{counts_run}
 use Rattle.tap_engine.proofs.Fetched.{captures_are}
 use Rattle.tap_engine.proofs.Given.{closes_nothing, one_given, run_given}
 

@@ -19,20 +19,24 @@ use Rattle.tp_layout.specs.declared.requests.RingRequest.{RingRequest}
 use Rattle.tap_engine.specs.Commands.{Named, has_schedule, is_threaded, rings_of, sends}
 use Rattle.tap_reading.specs.Fronts.{ReadTexts, text_entry}
 use Rattle.tap_reading.specs.Readers.{ReadsAs, Says, setup_for}
-use Rattle.tap_engine.specs.Faults.{IsCounted}
-use Rattle.tap_engine.specs.Findings.{IsFound, IsReported, fault_at}
-use Rattle.tap_engine.specs.Given.{Texts, all_texts, first_texts, last_texts, named_entry}
-use Rattle.tap_engine.specs.Jobs.{HasJob, HasLast, HasLines, HasProgram, HasSchedule, HasTicks, IsAsked}
+use Rattle.tap_running.specs.Counts.{IsCounted}
+use Rattle.tap_engine.specs.Findings.{IsFound, IsReported}
+use Rattle.tap_running.specs.Captures.{fault_at}
+use Rattle.tap_engine.specs.Given.{Texts, all_texts, first_texts, last_texts}
+use Rattle.tap_running.specs.Texts.{named_entry}
+use Rattle.tap_engine.specs.Jobs.{HasJob, HasLast, HasLines, HasSchedule, HasTicks, IsAsked}
+use Rattle.tap_running.specs.Texts.{HasProgram}
 use Rattle.tap_engine.specs.Jobs.{IsLoaded, IsRead, LinesFor, lines_for}
 use Rattle.tap_engine.specs.inside.Loads.{ReadsOne}
 use Rattle.tap_engine.specs.Names.{filter_for, first_file, read_last, ticks_for}
 use Rattle.tap_engine.specs.Sendings.{IsSending}
 use Rattle.tap_engine.specs.declared.findings.Finding.TheVariants as finding
 use Rattle.tap_engine.specs.declared.sent_captures.Sending.{Sending}
-use Rattle.tap_engine.proofs.Counted.{counts_later}
-use Rattle.tap_engine.proofs.Fetched.{held_same}
-use Rattle.tap_engine.proofs.Given.{read_then}
-use Rattle.tap_engine.proofs.Meant.{AfterMeant, AllMeant, captures_meant}
+use Rattle.tap_running.proofs.Counted.{counts_later}
+use Rattle.tap_running.proofs.Stores.{held_same}
+use Rattle.tap_running.proofs.TextOrder.{read_then}
+use Rattle.tap_engine.proofs.Meant.{AfterMeant}
+use Rattle.tap_running.proofs.MeantNames.{AllMeant, captures_meant}
 
 -- ---- the names that are read last are meant
 

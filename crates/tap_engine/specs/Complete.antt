@@ -15,20 +15,14 @@ use Rattle.setup_text.specs.declared.setups.Setup.{Setup}
 use Rattle.tap_outside.specs.Contents.{Contents}
 use Rattle.tap_outside.specs.Counts.{Rose}
 use Rattle.tap_outside.specs.Seen.{SinkSeen, StoreSeen}
+use Rattle.tap_running.specs.Texts.{IsSoundFilter, text_in}
+use Rattle.tap_running.specs.Captures.{AreWhole}
 use Rattle.tap_engine.specs.Commands.{Named}
 use Rattle.tap_engine.specs.Names.{filter_for, first_file, setup_held, ticks_for}
 use Rattle.tap_engine.specs.declared.outcomes.Status.{Status}
 use Rattle.tap_engine.specs.declared.outcomes.Status.TheVariants.{Fine, Memory}
-
--- what a name holds, nothing if it isn't held
-abbrev pub text_in : Contents → List ℕ → List ℕ
-text_in files name = unwrap_or (files name) []
-
--- the filter is accepted, if there is one
-abbrev pub IsSoundFilter : Contents → Option (List ℕ) → Type 0
-IsSoundFilter files None = ⊤
-IsSoundFilter files (Some name) =
-    (program : List Insn) × (filter_of (text_in files name) ≡ Ok program)
+use Rattle.tap_running.specs.Captures.{AreWhole}
+use Rattle.tap_running.specs.Texts.{IsSoundFilter, text_in}
 
 -- so are the moments, if there are some
 abbrev pub AreSoundTicks : Contents → Option (List ℕ) → Type 0
@@ -41,10 +35,6 @@ abbrev pub IsSoundSchedule : Contents → List ℕ → Setup → Type 0
 IsSoundSchedule files name setup =
     (lines : List Line)
     × (schedule_of (length setup.cpus) setup.plan.members (text_in files name) ≡ Ok lines)
-
--- each capture is whole
-abbrev pub AreWhole : Contents → List CpuSetup → Type 0
-AreWhole files cpus = AllByRecursion (λ cpu. end_of (text_in files cpu.file) ≡ None) cpus
 
 -- the texts and captures that are read last
 abbrev pub AreSoundLast : Command → Contents → List ℕ → Setup → Type 0

@@ -6,11 +6,6 @@ use Rattle.tap_saving.specs.Saves.{NoSaveFailed}
 use Rattle.tap_engine.specs.declared.outcomes.Status.{Status}
 use Rattle.tap_engine.specs.declared.outcomes.Status.TheVariants.{Memory, ReadFault, WriteFault}
 
--- there were at least `faults` faults, and if `faults` is 0 no read failed
-pub record IsCounted (old new : StoreSeen) (faults : ℕ) : Type 0 where
-  pub rose : RoseBy faults old.read_faults new.read_faults
-  pub faultless : faults ≡ 0 → NoReadFailed old new
-
 -- no fault was counted: the counts of an exact store and that of the sink are unchanged
 pub record NoneCounted (old new : StoreSeen) (before after : SinkSeen) : Type 0 where
   pub reads : IsTrue old.exact → new.read_faults ≡ old.read_faults

@@ -22,8 +22,9 @@ use Rattle.run_reports.specs.Members.{AreShort}
 use Rattle.tap_saving.specs.Files.{CanBeOutput, File, files_from, names_from, sent_file, sent_name}
 use Rattle.tp_layout.specs.Requests.{size_of}
 use Rattle.tx_ring.specs.Rings.{room_of}
+use Rattle.tap_running.specs.Captures.{fault_at}
 use Rattle.tap_engine.specs.Commands.{Named, rings_of, sends}
-use Rattle.tap_engine.specs.Faults.{IsCounted}
+use Rattle.tap_running.specs.Counts.{IsCounted}
 use Rattle.tap_engine.specs.Headline.{IsHeadline}
 use Rattle.tap_engine.specs.Jobs.{CantReadText, HasBadSetup, HasBadText, IsChecked}
 use Rattle.tap_engine.specs.Sendings.{IsSent}
@@ -31,6 +32,7 @@ use Rattle.tap_engine.specs.declared.findings.Finding.{Finding}
 use Rattle.tap_engine.specs.declared.findings.Finding.TheVariants as finding
 use Rattle.tap_engine.specs.declared.outcomes.Status.{Status}
 use Rattle.tap_engine.specs.declared.outcomes.Status.TheVariants as statuses
+use Rattle.tap_running.specs.Captures.{fault_at}
 
 -- ---- what is found
 
@@ -54,12 +56,6 @@ IsSentBy true setup report (Some forwards) =
 IsSentBy true setup report None = ⊥
 IsSentBy false setup report (Some forwards) = ⊥
 IsSentBy false setup report None = ⊤
-
--- how many CPUs ended with a fault
-abbrev pub fault_at : CpuEnd → ℕ
-fault_at Fault = 1
-fault_at Whole = 0
-fault_at (Damaged damage) = 0
 
 abbrev pub faults_in : List CpuLog → ℕ
 faults_in [] = 0

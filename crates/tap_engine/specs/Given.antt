@@ -10,8 +10,12 @@ use Rattle.setup_text.specs.declared.setups.Setup.{Setup}
 use Rattle.tap_outside.specs.Records.{Took}
 use Rattle.tap_outside.specs.Seen.{Entry, SourcesSeen, missed_entry}
 use Rattle.tap_reading.specs.Fronts.{text_entry}
+use Rattle.tap_running.specs.Texts.{named_entry}
+use Rattle.tap_running.specs.Captures.{capture_entry}
 use Rattle.tap_engine.specs.Commands.{Named, has_schedule}
 use Rattle.tap_engine.specs.Names.{filter_for, ticks_for}
+use Rattle.tap_running.specs.Captures.{capture_entry}
+use Rattle.tap_running.specs.Texts.{named_entry}
 
 -- ---- texts
 
@@ -21,11 +25,6 @@ pub record Texts : Type 0 where
   pub filter : List ℕ
   -- the schedule, or the moments
   pub last : List ℕ
-
--- the entry of a text, where it has a name
-abbrev pub named_entry : Option (List ℕ) → List ℕ → List Entry
-named_entry None text = []
-named_entry (Some name) text = text_entry name text ∷ []
 
 -- the texts that a command reads first: its setup, and the filter where it reads one
 abbrev pub first_texts : Named → Setup → Texts → List Entry
@@ -45,17 +44,6 @@ abbrev pub all_texts : Named → Setup → Texts → List Entry
 all_texts named setup texts = first_texts named setup texts ++ last_texts named setup texts
 
 -- ---- captures
-
--- whether a capture that ended so was left because reading failed
-abbrev pub has_failed : CpuEnd → Bool
-has_failed Fault = true
-has_failed Whole = false
-has_failed (Damaged damage) = false
-
--- the entry of a capture that gave these bytes and ended so, whether or not its source was opened
-abbrev pub capture_entry : List ℕ → Bool → List ℕ → CpuEnd → Entry
-capture_entry its_name was_opened given end =
-    record { name = its_name; opened = was_opened; bytes = given; failed = has_failed end }
 
 -- what the source of a CPU's capture gave, under the name of its file; nothing without one
 abbrev pub IsEntryOf : CpuSetup → List ℕ → CpuEnd → Option Entry → Type 0

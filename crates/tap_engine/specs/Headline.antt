@@ -21,28 +21,11 @@ use Rattle.run_reports.specs.Reports.{IsRunReport}
 use Rattle.run_reports.specs.RingRules.{RingRules, rules_by}
 use Rattle.replay_machine.specs.Runs.{report_of}
 use Rattle.capture_reading.specs.Sources.{EndsAtDamage, UnlessFault, WhereEnded, WhereFault, end_by}
+use Rattle.tap_running.specs.Captures.{AreCaptures}
 use Rattle.tap_engine.specs.Commands.{Named, rings_of}
 use Rattle.tap_engine.specs.Given.{AreGiven, Texts, all_texts}
 use Rattle.tap_engine.specs.Jobs.{HasJob, HasLines, HasTicks}
-
--- the capture under a name gave these bytes, from its start, and ended in this way
-pub record IsCapture (held : Option Contents) (name bytes : List ℕ) (end : CpuEnd) : Type 0 where
-  pub front : IsFrontOf held name bytes
-  -- nothing was read after damage, and at most 33,554,432 bytes and a piece of 65,536
-  pub last : EndsAtDamage bytes
-  pub few : length bytes ≤ 33619968
-  -- if reading failed the bytes before it show no damage
-  pub sound : WhereFault end (damage_of bytes ≡ None)
-  -- otherwise the end is what the bytes say, and whole or cut only if they are all
-  pub damage : UnlessFault end (end ≡ end_by (end_of bytes))
-  pub all : WhereEnded end (IsAllOf held name bytes)
-
--- the capture of each CPU
-abbrev pub AreCaptures : Option Contents → List CpuSetup → List (List ℕ) → List CpuEnd → Type 0
-AreCaptures held [] [] [] = ⊤
-AreCaptures held (cpu ∷ cpus) (bytes ∷ all) (end ∷ ends) =
-    IsCapture held cpu.file bytes end × AreCaptures held cpus all ends
-AreCaptures held cpus all ends = ⊥
+use Rattle.tap_running.specs.Captures.{AreCaptures}
 
 -- the captures of a `make` are those of its own frames, and each ended whole
 pub record AreMade (setup : Setup) (bytes : List (List ℕ)) (ends : List CpuEnd) : Type 0 where

@@ -22,22 +22,17 @@ use Rattle.tap_reading.specs.Fronts.{CantRead, RanOut, ReadTexts, text_entry}
 use Rattle.tap_reading.specs.Readers.{Refuses, Says, schedule_for, setup_for}
 use Rattle.tap_reading.specs.declared.stops.Stop.{Stop}
 use Rattle.tap_reading.specs.declared.stops.Stop.TheVariants as stops
+use Rattle.tap_running.specs.Texts.{CantReadNext, HasProgram}
 use Rattle.tap_engine.specs.Commands.{Named, has_schedule}
 use Rattle.tap_engine.specs.Given.{Texts, all_texts, first_texts}
 use Rattle.tap_engine.specs.Names.{filter_for, ticks_for}
+use Rattle.tap_running.specs.Texts.{CantReadNext, HasProgram}
 
 -- ---- what is accepted
 
 -- this text of the setup is accepted
 abbrev pub HasSetup : Option Contents → Named → List ℕ → Setup → Type 0
 HasSetup held named text setup = Says (setup_for named.command) held named.setup text (Ok setup)
-
--- so is this one of a filter; if none is read there is no program
-abbrev pub HasProgram :
-    Option Contents → Option (List ℕ) → List ℕ → Option (List Insn) → Type 0
-HasProgram held None text None = ⊤
-HasProgram held (Some name) text (Some program) = Says filter_of held name text (Ok program)
-HasProgram held name text program = ⊥
 
 pub record HasJob (held : Option Contents) (named : Named) (texts : Texts) (job : Job)
     : Type 0 where
@@ -124,12 +119,6 @@ HasBadText old new named error =
     ⊎ (HasBadTicks old new named error ⊎ HasBadSchedule old new named error)
 
 -- ---- what can't be read, all texts before it being accepted
-
--- after these texts the one of this name can't be read: reading failed, and nothing was read since
-pub record CantReadNext (old new : StoreSeen) (texts : List Entry) (name : List ℕ) : Type 0 where
-  pub before : StoreSeen
-  pub read_is : ReadTexts old before texts
-  pub unread : CantRead before new name
 
 pub record CantReadFilter (old new : StoreSeen) (named : Named) : Type 0 where
   pub setup : Setup

@@ -11,8 +11,9 @@ use Rattle.tap_reading.specs.Fronts.{ReadTexts}
 use Rattle.tx_ring.specs.Rings.{room_of}
 use Rattle.tx_ring.specs.Transmission.{transmitted_of}
 use Rattle.tap_engine.specs.Commands.{Named}
-use Rattle.tap_engine.specs.Given.{Texts, all_texts, capture_entry}
-use Rattle.tap_engine.specs.Headline.{IsCapture}
+use Rattle.tap_engine.specs.Given.{Texts, all_texts}
+use Rattle.tap_running.specs.Captures.{capture_entry}
+use Rattle.tap_running.specs.Captures.{IsCapture}
 use Rattle.tap_engine.specs.Jobs.{HasJob}
 use Rattle.tap_engine.specs.Names.{first_file}
 use Rattle.tap_engine.specs.declared.sent_captures.Sending.{Sending}

@@ -5,7 +5,8 @@ ghost use Rattle.tap_outside.specs.Seen.{StoreSeen};
 ghost use Rattle.tap_engine.specs.inside.Answers.{IsAnswer};
 ghost use Rattle.tap_engine.specs.Commands.{Named, command_of, plain_command};
 ghost use Rattle.tap_engine.specs.Complete.{IsComplete};
-ghost use Rattle.tap_engine.specs.Conclusions.{GivesUp, IsLastLine, IsSearched, IsStopped, Tells};
+ghost use Rattle.tap_engine.specs.Conclusions.{GivesUp, IsSearched, IsStopped, Tells};
+ghost use Rattle.tap_running.specs.Prints.{IsLastLine};
 ghost use Rattle.tap_engine.specs.Faults.{IsFaultless};
 ghost use Rattle.tap_engine.specs.Findings.{IsReady, names_of};
 ghost use Rattle.tap_engine.specs.Headline.{IsWorth};
@@ -21,7 +22,8 @@ use frame_view::Memory;
 use std::alloc::Global;
 use std::sync::Wait;
 use std::thread::Threads;
-use tap_outside::{Sink, Store, Word, write_whole};
+use tap_outside::{Sink, Store, Word};
+use tap_running::print_memory;
 
 /// Carries out a command over a store and a sink.
 ///
@@ -184,7 +186,7 @@ fn give_up<O: Sink>(out: &mut O) -> Outcome
     ensures kept { (O.seen out.old).faults ≤ (O.seen out.new).faults }
     ensures one { (O.seen out.new).faults ≤ (O.seen out.old).faults + 1 }
 {
-    let _ = write_whole(out, b"out of memory\n");
+    print_memory(out);
     Outcome {
         status: Status::Memory,
         report: None,

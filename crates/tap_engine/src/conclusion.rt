@@ -2,14 +2,16 @@
 ghost use Rattle.std.specs.Prelude.{◌≡◌, ◌⊎◌, ◌&&◌, if◌then◌else◌, IfOk, IsTrue, OnErr};
 ghost use Rattle.std.specs.List.{AllByRecursion};
 ghost use Rattle.tap_saving.specs.Saves.{Saved, SavedSome, Touches};
-ghost use Rattle.tap_engine.specs.Conclusions.{Concludes, IsDone, IsFailed, IsPrinted, PrintedSome};
+ghost use Rattle.tap_engine.specs.Conclusions.{Concludes, IsDone, IsFailed};
+ghost use Rattle.tap_running.specs.Prints.{IsPrinted, PrintedSome};
 ghost use Rattle.tap_engine.specs.Findings.{IsReady, files_of, lines_of, names_of};
 
 use crate::findings::Finding;
 use crate::{Outcome, Status};
 use frame_view::Memory;
 use std::alloc::Global;
-use tap_outside::{OutError, Sink, Store, write_whole};
+use tap_outside::{Sink, Store};
+use tap_running::print_lines;
 use tap_saving::{save_members, save_sent};
 
 /// Saves the files of a finding and prints its lines. Each is tried even if the other fails.
@@ -61,7 +63,7 @@ fn save_and_print<S: Store, O: Sink>(
 {
     let lines = finding.lines(alloc)?;
     let saved = save(alloc, finding, store)?;
-    let printed = print(out, lines.as_slice())?;
+    let printed = print_lines(out, lines.as_slice())?;
     Ok(status_with(saved, printed, finding.status()))
 }
 
@@ -83,19 +85,6 @@ fn save<S: Store>(alloc: Global, finding: &Finding, store: &mut S) -> Result<boo
         }
         Finding::Sent(setup, sending) => save_sent(alloc, setup, &sending.sent.packets, store),
         _ => Ok(true),
-    }
-}
-
-/// Prints lines, and returns whether all were printed.
-#[tactic(auto, using(crate::proofs::Printed::some_printed))]
-fn print<O: Sink>(out: &mut O, lines: &[u8]) -> Result<bool, Memory>
-    ensures told { IfOk result (IsPrinted (O.seen out.old) (O.seen out.new) lines.now) }
-    ensures cut { OnErr result (PrintedSome (O.seen out.old) (O.seen out.new) lines.now) }
-{
-    match write_whole(out, lines) {
-        Ok(()) => Ok(true),
-        Err(OutError::Failed) => Ok(false),
-        Err(OutError::Memory) => Err(Memory),
     }
 }
 

@@ -11,7 +11,8 @@ ghost use Rattle.tap_reading.specs.Fronts.{ReadTexts, text_entry};
 ghost use Rattle.tap_reading.specs.Readers.{ReadsAs, StopsAtText, schedule_for};
 ghost use Rattle.tap_engine.specs.Commands.{Named, named_by};
 ghost use Rattle.tap_engine.specs.Given.{Texts};
-ghost use Rattle.tap_engine.specs.Jobs.{HasProgram, HasSetup, HasTicks, IsLoaded, Stops};
+ghost use Rattle.tap_running.specs.Texts.{HasProgram};
+ghost use Rattle.tap_engine.specs.Jobs.{HasSetup, HasTicks, IsLoaded, Stops};
 ghost use Rattle.tap_engine.specs.inside.Loads.{ReadsOne};
 ghost use Rattle.tap_engine.specs.Names.{AreMeantToRead, filter_for, ticks_for};
 
@@ -64,7 +65,7 @@ fn filter_for(command: Command, setup: &Setup) -> Option<&Word>
 }
 
 /// Reads a filter, if one is named.
-#[tactic(auto, using(crate::proofs::Found::at_filter, crate::proofs::Given::read_none))]
+#[tactic(auto, using(crate::proofs::Found::at_filter, crate::proofs::Names::read_none))]
 fn load_program<S: Store>(
     alloc: Global,
     store: &mut S,
@@ -93,7 +94,7 @@ fn load_program<S: Store>(
 }
 
 /// Reads the moments that a setup names; none if it names no file.
-#[tactic(auto, using(crate::proofs::Given::read_none))]
+#[tactic(auto, using(crate::proofs::Names::read_none))]
 pub(crate) fn load_moments<S: Store>(
     alloc: Global,
     store: &mut S,

@@ -9,7 +9,7 @@ ghost use Rattle.setup_text.specs.declared.commands.Command.TheVariants.{Make};
 ghost use Rattle.slot_layout.specs.SlotShapes.{IsSlotShape};
 ghost use Rattle.tap_outside.specs.Seen.{OnlyReads, StoreSeen};
 ghost use Rattle.tap_engine.specs.Commands.{Named, has_schedule};
-ghost use Rattle.tap_engine.specs.Faults.{IsCounted};
+ghost use Rattle.tap_running.specs.Counts.{IsCounted};
 ghost use Rattle.tap_engine.specs.Given.{Texts};
 ghost use Rattle.tap_engine.specs.Findings.{IsReported, IsSmall, faults_in};
 ghost use Rattle.tap_engine.specs.Jobs.{HasLines, IsLoaded, IsRead, Stops};

@@ -3,8 +3,8 @@ ghost use Rattle.std.specs.Prelude.{◌≡◌, ◌≤◌, None, length, All, IfO
 ghost use Rattle.setup_text.specs.Sound.{IsSetup};
 ghost use Rattle.tap_outside.specs.Seen.{NoReadFailed, OnlyReads};
 ghost use Rattle.tp_layout.specs.Requests.{transmit_fault};
-ghost use Rattle.tap_engine.specs.Faults.{IsCounted};
-ghost use Rattle.tap_engine.specs.Findings.{fault_at};
+ghost use Rattle.tap_running.specs.Counts.{IsCounted};
+ghost use Rattle.tap_running.specs.Captures.{fault_at};
 ghost use Rattle.tap_engine.specs.Names.{first_file};
 ghost use Rattle.tap_engine.specs.Sendings.{IsFirst, IsSending};
 

@@ -2,7 +2,7 @@
 ghost use Rattle.std.specs.Prelude.{◌≡◌, [], ◌∷◌, length, map, option_map, All, IfOk, IfSome};
 ghost use Rattle.std.specs.Prelude.{IsTrue, OnErr};
 ghost use Rattle.tap_outside.specs.Seen.{NoReadFailed, OnlyReads};
-ghost use Rattle.tap_engine.specs.Faults.{IsCounted};
+ghost use Rattle.tap_running.specs.Counts.{IsCounted};
 ghost use Rattle.tap_engine.specs.Given.{given_entries};
 ghost use Rattle.tap_engine.specs.inside.Sources.{AreFetched, Fetches, entries_of, faulty_in};
 ghost use Rattle.tap_engine.specs.inside.Sources.{missing_in, with_closed};

@@ -6,7 +6,7 @@ ghost use Rattle.setup_text.specs.Sound.{AreMoments, IsSetup};
 ghost use Rattle.tap_outside.specs.Seen.{OnlyReads, StoreSeen};
 ghost use Rattle.tap_saving.specs.Files.{CanBeOutput};
 ghost use Rattle.tap_engine.specs.Commands.{Named, is_threaded};
-ghost use Rattle.tap_engine.specs.Faults.{IsCounted};
+ghost use Rattle.tap_running.specs.Counts.{IsCounted};
 ghost use Rattle.tap_engine.specs.Given.{Texts};
 ghost use Rattle.tap_engine.specs.Findings.{IsReported, IsSentBy, IsSmall, faults_in};
 ghost use Rattle.tap_engine.specs.Jobs.{HasTicks, IsLoaded, IsRead, Stops};

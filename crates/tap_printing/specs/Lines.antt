@@ -41,12 +41,15 @@ end_text Whole = codes "ok"
 end_text Fault = codes "fault"
 end_text (Damaged error) = damage_text error
 
+-- the line of a CPU, or of one of its files, with so many frames and arrivals and this end
+unfoldable pub cpu_text : ℕ → ℕ → ℕ → CpuEnd → List ℕ
+cpu_text cpu frames arrivals end =
+    codes "cpu " ++ (decimal cpu ++ (codes " frames " ++ (decimal frames ++ (codes " arrivals "
+    ++ (decimal arrivals ++ (codes " end " ++ (end_text end ++ codes "\n")))))))
+
 -- the line of a CPU
-unfoldable pub cpu_line : ℕ → CpuLog → List ℕ
-cpu_line cpu log =
-    codes "cpu " ++ (decimal cpu ++ (codes " frames " ++ (decimal log.frames
-    ++ (codes " arrivals "
-    ++ (decimal (length log.arrivals) ++ (codes " end " ++ (end_text log.end ++ codes "\n")))))))
+abbrev pub cpu_line : ℕ → CpuLog → List ℕ
+cpu_line cpu log = cpu_text cpu log.frames (length log.arrivals) log.end
 
 -- the lines of CPUs that have the numbers from this one up
 abbrev pub cpu_lines : ℕ → List CpuLog → List ℕ

@@ -1,6 +1,7 @@
 //! The lines of CPUs, and the sums over them.
 ghost use Rattle.std.specs.Prelude.{◌≡◌, ◌++◌, IfOk, OnOk, string_bytes};
-ghost use Rattle.tap_printing.specs.Lines.{arrivals_in, cpu_line, cpu_lines, damage_text, end_text};
+ghost use Rattle.tap_printing.specs.Lines.{arrivals_in, cpu_line, cpu_lines, cpu_text, damage_text};
+ghost use Rattle.tap_printing.specs.Lines.{end_text};
 ghost use Rattle.tap_printing.specs.Lines.{filtered_in};
 
 use crate::lines::push_line;
@@ -20,13 +21,25 @@ pub(crate) fn push_cpus(alloc: Global, text: &mut Vec<u8>, logs: &[CpuLog]) -> R
 }
 
 /// The line of a CPU.
-#[tactic(auto, unfolding(crate::specs::Lines::cpu_line))]
 fn cpu_line(alloc: Global, cpu: usize, log: &CpuLog) -> Result<String, Memory>
     ensures { IfOk result (λ line. string_bytes line ≡ cpu_line cpu log.now) }
 {
-    let frames = log.frames;
-    let arrivals = log.arrivals.len();
-    let end = end_text(alloc, log.end)?;
+    cpu_text(alloc, cpu, log.frames, log.arrivals.len(), log.end)
+}
+
+/// The line of a CPU, or of one of its files, ended by a line feed: with so many frames, with so
+/// many of which a frame arrived, and this end. The words are this project's own choice.
+#[tactic(auto, unfolding(crate::specs::Lines::cpu_text))]
+pub fn cpu_text(
+    alloc: Global,
+    cpu: usize,
+    frames: u32,
+    arrivals: usize,
+    end: CpuEnd,
+) -> Result<String, Memory>
+    ensures { IfOk result (λ line. string_bytes line ≡ cpu_text cpu frames arrivals end) }
+{
+    let end = end_text(alloc, end)?;
     Ok(format!(in alloc; "cpu {cpu} frames {frames} arrivals {arrivals} end {end}\n")?)
 }
 

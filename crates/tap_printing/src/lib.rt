@@ -10,6 +10,8 @@ mod refusals;
 mod sent_lines;
 mod summaries;
 
+pub use cpu_lines::cpu_text;
+pub use lines::push_line;
 pub use refusals::{setup_refusal, text_refusal};
 pub use sent_lines::send_lines;
 pub use summaries::summary;

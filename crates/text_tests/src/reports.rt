@@ -2,6 +2,7 @@
 use capture_file::CpuEnd;
 use fanout_group::{ArrivalList, ArrivalLog, CpuLog, CpuLogList, TryList};
 use frame_view::{ByteList, Frame, ItemList, Memory, Packet, Packets};
+use reader_walk::Dump;
 use ring_model::{Found, Note, Notes, Offer};
 use run_reports::{Forwards, MemberList, MemberReport, RingKind, RunReport};
 use std::alloc::Global;
@@ -129,7 +130,7 @@ fn member_of(alloc: Global, member: Member<'_>) -> Result<MemberReport, Memory> 
     Ok(MemberReport {
         notes: notes_of(alloc, letters, moments)?,
         walked: Packets::new(alloc),
-        dump: ByteList::new(alloc),
+        dump: Dump::new(alloc),
         blocks,
         ring: None,
     })

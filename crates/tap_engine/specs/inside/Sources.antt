@@ -4,14 +4,9 @@ use Rattle.std.specs.Prelude.{None, Some, option_map}
 use Rattle.setup_text.specs.declared.cpu_setups.CpuSetup.{CpuSetup}
 use Rattle.tap_outside.specs.Contents.{Contents, GivesFile}
 use Rattle.tap_outside.specs.Seen.{Entry, SourceSeen, SourcesSeen, entry_of}
+use Rattle.tap_running.specs.Captures.{IsFresh}
 use Rattle.tap_engine.specs.Given.{missing_entries}
-
--- a fresh source of what the name holds
-pub record IsFresh (held : Option Contents) (name : List ℕ) (source : SourceSeen) : Type 0 where
-  pub faultless : source.faults ≡ 0
-  pub unread : source.given ≡ []
-  pub named : source.name ≡ name
-  pub left : GivesFile held name source.left
+use Rattle.tap_running.specs.Captures.{IsFresh}
 
 -- the source of each CPU's capture, or none if it can't be fetched
 abbrev pub AreFetched : Option Contents → List CpuSetup → List (Option SourceSeen) → Type 0

@@ -1,5 +1,5 @@
 use Rattle.std.proofs.Common.{inr}
-use Rattle.tap_engine.proofs.Found.{if_ok, of_ok, on_errs}
+use Rattle.tap_running.proofs.Results.{if_ok, of_ok, on_errs}
 use Rattle.tap_engine.proofs.Returned.{closed_of}
 use Rattle.tap_engine.proofs.calls.attempt.Goals as goal
 

@@ -4,7 +4,7 @@ use Rattle.std.proofs.lemmas.Result.{err_from_is_err_and}
 use Rattle.tap_outside.specs.Contents.{Contents}
 use Rattle.tap_engine.specs.Commands.{Named, named_by}
 use Rattle.tap_engine.specs.Jobs.{HasJob}
-use Rattle.tap_engine.proofs.Fetched.{held_same}
+use Rattle.tap_running.proofs.Stores.{held_same}
 use Rattle.tap_engine.proofs.Found.{meant_later}
 use Rattle.tap_engine.proofs.command_runs.carry_out.Goals as goal
 

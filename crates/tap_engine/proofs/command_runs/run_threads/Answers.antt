@@ -4,8 +4,8 @@ use Rattle.std.proofs.lemmas.Result.{err_from_is_err_and}
 use Rattle.setup_text.specs.declared.setups.Setup.{Setup}
 use Rattle.tap_engine.specs.Commands.{Named, named_by}
 use Rattle.tap_engine.specs.Findings.{IsSentBy, faults_in}
-use Rattle.tap_engine.proofs.Counted.{counts_later}
-use Rattle.tap_engine.proofs.Fetched.{to_read_same}
+use Rattle.tap_running.proofs.Counted.{counts_later}
+use Rattle.tap_running.proofs.Stores.{to_read_same}
 use Rattle.tap_engine.proofs.Meant.{names_meant}
 use Rattle.tap_engine.proofs.Worked.{threaded_meant, threaded_rings, threaded_ticks, ticks_meant}
 use Rattle.tap_engine.proofs.command_runs.run_threads.Goals as goal

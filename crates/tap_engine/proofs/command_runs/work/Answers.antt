@@ -3,7 +3,7 @@ use Rattle.std.proofs.lemmas.Result.{err_from_is_err_and}
 use Rattle.setup_text.specs.declared.commands.Command.{Command}
 use Rattle.tap_engine.specs.Commands.{Named, named_by, sends}
 use Rattle.tap_engine.specs.Findings.{IsSentBy, faults_in}
-use Rattle.tap_engine.proofs.Counted.{counts_later, counts_none}
+use Rattle.tap_running.proofs.Counted.{counts_later, counts_none}
 use Rattle.tap_engine.proofs.Meant.{names_meant}
 use Rattle.tap_engine.proofs.Worked.{checks, first_meant, made_read, replays_scheduled, replays_unsent}
 use Rattle.tap_engine.proofs.Worked.{run_meant, schedule_meant, send_asked, sent_found, ticks_are, ticks_meant}

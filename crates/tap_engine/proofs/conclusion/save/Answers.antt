@@ -1,5 +1,5 @@
 use Rattle.tap_saving.proofs.MissedFiles.{none_saved}
-use Rattle.tap_engine.proofs.Found.{on_err}
+use Rattle.tap_running.proofs.Results.{on_err}
 use Rattle.tap_engine.proofs.conclusion.save.Goals as goal
 
 pub returns-in-Sent-clause-early : goal.returns-in-Sent-clause-early

@@ -4,9 +4,10 @@ use Rattle.std.proofs.lemmas.Result.{err_from_is_err_and}
 use Rattle.setup_text.specs.declared.setups.Setup.{Setup}
 use Rattle.tap_engine.specs.Commands.{Named, named_by}
 use Rattle.tap_engine.specs.Names.{filter_for}
-use Rattle.tap_engine.proofs.Fetched.{to_read_same}
+use Rattle.tap_running.proofs.Stores.{to_read_same}
 use Rattle.tap_engine.proofs.Worked.{loads_both}
-use Rattle.tap_engine.proofs.Meant.{lent_meant, names_meant}
+use Rattle.tap_running.proofs.MeantNames.{lent_meant}
+use Rattle.tap_engine.proofs.Meant.{names_meant}
 use Rattle.tap_engine.proofs.jobs.load_job.Goals as goal
 
 pub load_program-requires-after_bounds : goal.load_program-requires-after_bounds

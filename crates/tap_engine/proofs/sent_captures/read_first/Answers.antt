@@ -1,5 +1,5 @@
 use Rattle.std.proofs.Common.{ap, get_or, ◌∙◌}
-use Rattle.tap_engine.proofs.Found.{if_ok}
+use Rattle.tap_running.proofs.Results.{if_ok}
 use Rattle.tap_engine.proofs.Sent.{first_is, first_read}
 use Rattle.tap_engine.proofs.sent_captures.read_first.Goals as goal
 

@@ -3,7 +3,7 @@ use Rattle.std.specs.Prelude.{option_map}
 use Rattle.tap_engine.specs.Given.{given_entries}
 use Rattle.tap_engine.specs.inside.Sources.{entries_of, with_closed}
 use Rattle.tap_engine.proofs.Counted.{closes_none, closes_one}
-use Rattle.tap_engine.proofs.Fetched.{reads_then}
+use Rattle.tap_running.proofs.Stores.{reads_then}
 use Rattle.tap_engine.proofs.Given.{closes_given}
 use Rattle.tap_engine.proofs.sources.close_captures.Goals as goal
 

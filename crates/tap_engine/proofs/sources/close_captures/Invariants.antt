@@ -1,7 +1,7 @@
 use Rattle.std.proofs.Common.{◌≡◌, ℕ, ◌+◌, map}
 use Rattle.std.specs.Prelude.{option_map}
 use Rattle.tap_outside.specs.Seen.{OnlyReads}
-use Rattle.tap_engine.specs.Faults.{IsCounted}
+use Rattle.tap_running.specs.Counts.{IsCounted}
 use Rattle.tap_engine.specs.Given.{given_entries}
 use Rattle.tap_engine.specs.inside.Sources.{entries_of, faulty_in, with_closed}
 use Rattle.tap_engine.proofs.sources.close_captures.Given as goal

@@ -1,7 +1,7 @@
 use Rattle.std.proofs.Common.{◌≡◌, ◌<◌, [], length, subst, get_or, ap, ◌∙◌, rules}
 use Rattle.std.specs.Prelude.{option_map}
 use Rattle.tap_engine.proofs.Counted.{goes_on}
-use Rattle.tap_engine.proofs.Fetched.{held_same, reads_then}
+use Rattle.tap_running.proofs.Stores.{held_same, reads_then}
 use Rattle.tap_engine.proofs.Given.{fetch_starts, fetches_one}
 use Rattle.tap_engine.proofs.sources.fetch_captures.Goals as goal
 

@@ -1,7 +1,7 @@
 use Rattle.std.proofs.Common.{take, map}
 use Rattle.std.specs.Prelude.{option_map}
 use Rattle.tap_outside.specs.Seen.{OnlyReads}
-use Rattle.tap_engine.specs.Faults.{IsCounted}
+use Rattle.tap_running.specs.Counts.{IsCounted}
 use Rattle.tap_engine.specs.inside.Sources.{AreFetched, Fetches, missing_in}
 use Rattle.tap_engine.proofs.sources.fetch_captures.Given as goal
 

@@ -1,5 +1,5 @@
-use Rattle.tap_engine.proofs.Printed.{last_fault, last_line}
-use Rattle.tap_engine.proofs.calls.give_up.Goals as goal
+use Rattle.tap_running.proofs.LastLines.{last_fault, last_line}
+use Rattle.tap_running.proofs.printing.print_memory.Goals as goal
 
 pub returns-clause-line : goal.returns-clause-line
 returns-clause-line g c =

@@ -1,17 +1,23 @@
 -- What was printed when memory ran out.
-use Rattle.std.proofs.Common.{◌≡◌, ◌≤◌, ◌+◌, ℕ, List, Option, None, Some, append-nil, arith, refl, sym, inl, inr}
-use Rattle.std.specs.Prelude.{OnErr, OnOk, Result, Ok, Err}
+use Rattle.std.proofs.Common.{Bool, List, None, Option, Some, append-nil, arith, false, inl, inr, refl, sym, true, ℕ, ◌+◌, ◌≡◌, ◌≤◌}
 use Rattle.std.specs.Io.KnownBytes.{Appends}
-use Rattle.tap_outside.specs.Counts.{Rose, counted}
+use Rattle.std.specs.Prelude.{Err, Ok, OnErr, OnOk, Result}
+use Rattle.tap_outside.specs.Counts.{Rose, RoseBy, counted}
 use Rattle.tap_outside.specs.Outcomes.{OnFailed, OnMemory}
 use Rattle.tap_outside.specs.Seen.{SinkSeen}
 use Rattle.tap_outside.specs.Sinks.{AppendsFront}
 use Rattle.tap_outside.specs.declared.causes.OutError.{OutError}
 use Rattle.tap_outside.specs.declared.causes.OutError.TheVariants.{Failed, Memory}
-use Rattle.tap_engine.specs.Conclusions.{IsLastLine, PrintedSome, memory_line}
+use Rattle.tap_running.specs.Prints.{IsLastLine, IsPrinted, PrintedSome, memory_line}
+
+pub unprinted : (before after : SinkSeen) (lines : List ℕ) (printed : Bool) → printed ≡ false
+    → IsPrinted before after lines printed
+    → RoseBy 1 before.faults after.faults
+unprinted before after lines true e h = cc
+unprinted before after lines false e h = h.0
 
 -- the empty list is a prefix of the bytes
-none_written : (written : Option (List ℕ)) (bytes : List ℕ) → AppendsFront written written bytes
+pub none_written : (written : Option (List ℕ)) (bytes : List ℕ) → AppendsFront written written bytes
 none_written None bytes = tt
 none_written (Some old) bytes = (0, omega arith, sym (append-nil old))
 

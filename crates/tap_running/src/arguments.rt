@@ -17,7 +17,7 @@ const LAST_SIZE: u32 = 25;
 /// The arguments after the program's name, in order. One that isn't UTF-8, or has more than 32 MiB,
 /// is the empty word, which is neither a command nor the name of a file; so is an empty argument.
 /// `told` is what the system answers, from its first argument to the answer that there is no more.
-pub(crate) fn words<R: Env>(
+pub fn words<R: Env>(
     rt: &R,
     alloc: Global,
     told: &mut History<Option<Word>>,

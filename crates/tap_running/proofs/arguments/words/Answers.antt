@@ -1,6 +1,6 @@
 use Rattle.std.proofs.Common.{rules, ◌≤◌, length, IsUtf8}
-use Rattle.ringtap.proofs.Buffers.{one_more, one_told}
-use Rattle.ringtap.proofs.arguments.words.Goals as goal
+use Rattle.tap_running.proofs.Buffers.{one_more, one_told}
+use Rattle.tap_running.proofs.arguments.words.Goals as goal
 
 pub loop-index-preserved : goal.loop-index-preserved
 loop-index-preserved g c =

@@ -1,5 +1,5 @@
 use Rattle.std.proofs.Common.{◌≡◌, ◌≤◌, ◌+◌, Some, length, map, All, IsUtf8}
-use Rattle.ringtap.proofs.arguments.words.Given as goal
+use Rattle.tap_running.proofs.arguments.words.Given as goal
 
 -- each answer so far is a word
 abbrev pub invariant-loop-index : goal.invariant-loop-index

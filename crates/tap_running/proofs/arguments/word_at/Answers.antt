@@ -1,6 +1,6 @@
 use Rattle.std.proofs.Common.{◌∙◌}
-use Rattle.ringtap.proofs.Buffers.{word_bounded}
-use Rattle.ringtap.proofs.arguments.word_at.Goals as goal
+use Rattle.tap_running.proofs.Buffers.{word_bounded}
+use Rattle.tap_running.proofs.arguments.word_at.Goals as goal
 
 pub returns-in-Ok-clause-size : goal.returns-in-Ok-clause-size
 returns-in-Ok-clause-size g c = word_bounded c.in_ok-word_of-in-Ok.field-0 _ c.in-Ok.length _ _

@@ -1,0 +1,2 @@
+-- Names of crates below.
+pub use Rattle.tap_running.proofs.TextOrder.{read_none}

@@ -1,0 +1,12 @@
+pub mod Results
+pub mod Stores
+pub mod Captures
+pub mod Wholes
+pub mod Counted
+pub mod TextOrder
+pub mod TextLimits
+pub mod LastLines
+pub mod MeantNames
+pub mod FileReads
+pub mod Buffers
+pub mod Growing

@@ -1,0 +1,5 @@
+pub mod Captures
+pub mod Counts
+pub mod Files
+pub mod Prints
+pub mod Texts
