@@ -1,0 +1,175 @@
+-- Where no text can't be read no read failed, and each source that was opened is closed: for the
+-- texts one after another, and for what is found.
+use Rattle.std.proofs.Common.{◌≡◌, ℕ, ◌+◌, List, [], ◌∷◌, Option, None, Some, inl, inr, refl, sym, ap, ◌∙◌, subst, arith}
+use Rattle.bpf_filter.specs.declared.insn.Insn.{Insn}
+use Rattle.reader_pace.specs.declared.reader_error.ReaderError.{ReaderError}
+use Rattle.reader_pace.specs.declared.readers.Reader.{Reader}
+use Rattle.setup_text.specs.declared.cpu_setups.CpuSetup.{CpuSetup}
+use Rattle.setup_text.specs.declared.jobs.Job.{Job}
+use Rattle.setup_text.specs.declared.text_error.TextError.{TextError}
+use Rattle.frame_deals.specs.Dealings.{Dealing}
+use Rattle.size_printing.specs.declared.size_reports.ReadFile.{ReadFile}
+use Rattle.tap_outside.proofs.Kept.{NoReadFailed-none, NoReadFailed-then, OnlyReads-same, OnlyReads-then}
+use Rattle.tap_outside.proofs.Taken.{none_open, none_open_same, none_open_then}
+use Rattle.tap_outside.specs.Counts.{RoseBy}
+use Rattle.tap_outside.specs.Records.{NoneOpen}
+use Rattle.tap_outside.specs.Seen.{Entry, NoReadFailed, OnlyReads, StoreSeen}
+use Rattle.tap_reading.specs.Fronts.{CantRead, RanOut, ReadTexts}
+use Rattle.tap_reading.specs.Readers.{ReadsAs}
+use Rattle.tap_running.specs.Captures.{fault_at}
+use Rattle.tap_running.specs.Counts.{IsCounted}
+use Rattle.tap_running.proofs.Counted.{counts_later, counts_none, counts_then}
+use Rattle.tap_sizes.specs.Readings.{AreCpusRead, file_faults}
+use Rattle.tap_sizes.specs.SizeFindings.{IsSizeFound}
+use Rattle.tap_sizes.specs.SizeTexts.{CantReadFilter, CantReadReader, CantReadText, HasBadFilter, HasBadReader}
+use Rattle.tap_sizes.specs.SizeTexts.{IsJobRead, IsProgramRead, IsSizeAsked}
+use Rattle.tap_sizes.specs.SizeWords.{SizeNamed}
+use Rattle.tap_sizes.specs.declared.size_findings.SizeFinding.{SizeFinding}
+use Rattle.tap_sizes.specs.declared.size_findings.SizeFinding.TheVariants as finding
+
+-- ---- no read failed, and none is open
+
+pub clean_texts : (a b : StoreSeen) (texts : List Entry) → ReadTexts a b texts → RanOut a b
+clean_texts a b texts read =
+    record { unfailed = read.unfailed; closed = none_open a.sources b.sources texts read.took }
+
+pub clean_same : (a b : StoreSeen) → b ≡ a → RanOut a b
+clean_same a b same = subst (λ (s : StoreSeen). RanOut a s) (sym same) (record {
+  unfailed = NoReadFailed-none a;
+  closed = none_open_same a.sources a.sources refl;
+})
+
+pub clean_then : (a b c : StoreSeen) → RanOut a b → RanOut b c → RanOut a c
+clean_then a b c first second = record {
+  unfailed = NoReadFailed-then a b c first.unfailed second.unfailed;
+  closed = none_open_then a.sources b.sources c.sources first.closed second.closed;
+}
+
+pub clean_program : (a b : StoreSeen) (name : Option (List ℕ)) (program : Option (List Insn))
+    → IsProgramRead a b name program → RanOut a b
+clean_program a b None None is = clean_same a b is
+clean_program a b None (Some program) is = absurd is
+clean_program a b (Some name) None is = absurd is
+clean_program a b (Some name) (Some program) is = clean_texts a b _ is.texts
+
+pub clean_job : (a b : StoreSeen) (named : SizeNamed) (job : Job) → IsJobRead a b named job
+    → RanOut a b
+clean_job a b named job is =
+    clean_then a is.between b (clean_texts a is.between _ is.setup_is.texts)
+    (clean_program is.between b job.setup.filter job.program is.program_is)
+
+pub clean_asked : (a b : StoreSeen) (named : SizeNamed) (job : Job) (reader : Reader)
+    → IsSizeAsked a b named job reader → RanOut a b
+clean_asked a b named job reader is =
+    clean_then a is.between b (clean_job a is.between named job is.job_is)
+    (clean_texts is.between b _ is.reader_is.texts)
+
+pub clean_bad_filter : (a b : StoreSeen) (named : SizeNamed) (error : TextError)
+    → HasBadFilter a b named error → RanOut a b
+clean_bad_filter a b named error is =
+    clean_then a is.between b (clean_texts a is.between _ is.setup_is.texts)
+    (clean_texts is.between b _ is.refused.texts)
+
+pub clean_bad_reader : (a b : StoreSeen) (named : SizeNamed) (error : ReaderError)
+    → HasBadReader a b named error → RanOut a b
+clean_bad_reader a b named error is =
+    clean_then a is.between b (clean_job a is.between named is.job is.job_is)
+    (clean_texts is.between b _ is.refused.texts)
+
+-- ---- a text that can't be read
+
+unread_open : (a b : StoreSeen) (name : List ℕ) → CantRead a b name
+    → NoneOpen a.sources b.sources
+unread_open a b name unread = none_open a.sources b.sources _ unread.took
+
+later_rose : (a b c : StoreSeen) (name : List ℕ) → RanOut a b → CantRead b c name
+    → RoseBy 1 a.read_faults c.read_faults
+later_rose a b c name clean unread =
+    let later = clean.unfailed.only.later in let rose = unread.rose in omega (arith, later, rose)
+
+pub unread_closed : (a b : StoreSeen) (named : SizeNamed) → CantReadText a b named
+    → NoneOpen a.sources b.sources
+unread_closed a b named (inl setup) = unread_open a b named.setup setup
+unread_closed a b named (inr (inl filter)) =
+    none_open_then a.sources filter.between.sources b.sources
+    (clean_texts a filter.between _ filter.setup_is.texts).closed
+    (unread_open filter.between b filter.name filter.unread)
+unread_closed a b named (inr (inr reader)) =
+    none_open_then a.sources reader.between.sources b.sources
+    (clean_job a reader.between named reader.job reader.job_is).closed
+    (unread_open reader.between b named.reader reader.unread)
+
+pub unread_rose : (a b : StoreSeen) (named : SizeNamed) → CantReadText a b named
+    → RoseBy 1 a.read_faults b.read_faults
+unread_rose a b named (inl setup) = setup.rose
+unread_rose a b named (inr (inl filter)) =
+    later_rose a filter.between b filter.name (clean_texts a filter.between _ filter.setup_is.texts)
+    filter.unread
+unread_rose a b named (inr (inr reader)) =
+    later_rose a reader.between b named.reader
+    (clean_job a reader.between named reader.job reader.job_is) reader.unread
+
+-- ---- the captures
+
+pub cpus_closed : (a b : StoreSeen) (job : Job) (cpu : ℕ) (setups : List CpuSetup)
+    (all : List (List ℕ)) (files : List ReadFile) (deals : List Dealing)
+    → AreCpusRead a b job cpu setups all files deals → NoneOpen a.sources b.sources
+cpus_closed a b job cpu [] [] [] [] are =
+    none_open_same a.sources b.sources (ap (λ (s : StoreSeen). s.sources) are)
+cpus_closed a b job cpu [] [] [] (d ∷ deals) are = absurd are
+cpus_closed a b job cpu [] [] (f ∷ files) deals are = absurd are
+cpus_closed a b job cpu [] (x ∷ all) files deals are = absurd are
+cpus_closed a b job cpu (s ∷ setups) [] files deals are = absurd are
+cpus_closed a b job cpu (s ∷ setups) (x ∷ all) [] deals are = absurd are
+cpus_closed a b job cpu (s ∷ setups) (x ∷ all) (f ∷ files) [] are = absurd are
+cpus_closed a b job cpu (s ∷ setups) (x ∷ all) (f ∷ files) (d ∷ deals) are =
+    none_open_then a.sources are.0.sources b.sources
+    (none_open a.sources are.0.sources _ are.1.file_is.given)
+    (cpus_closed are.0 b job (cpu + 1) setups all files deals are.2)
+
+pub cpus_counted : (a b : StoreSeen) (job : Job) (cpu : ℕ) (setups : List CpuSetup)
+    (all : List (List ℕ)) (files : List ReadFile) (deals : List Dealing)
+    → AreCpusRead a b job cpu setups all files deals → IsCounted a b (file_faults files)
+cpus_counted a b job cpu [] [] [] [] are =
+    subst (λ (s : StoreSeen). IsCounted a s 0) (sym are) (counts_none 0 a refl)
+cpus_counted a b job cpu [] [] [] (d ∷ deals) are = absurd are
+cpus_counted a b job cpu [] [] (f ∷ files) deals are = absurd are
+cpus_counted a b job cpu [] (x ∷ all) files deals are = absurd are
+cpus_counted a b job cpu (s ∷ setups) [] files deals are = absurd are
+cpus_counted a b job cpu (s ∷ setups) (x ∷ all) [] deals are = absurd are
+cpus_counted a b job cpu (s ∷ setups) (x ∷ all) (f ∷ files) [] are = absurd are
+cpus_counted a b job cpu (s ∷ setups) (x ∷ all) (f ∷ files) (d ∷ deals) are =
+    counts_then (fault_at f.end) (file_faults files) a are.0 b are.1.file_is.counted
+    (cpus_counted are.0 b job (cpu + 1) setups all files deals are.2)
+
+-- ---- what is found
+
+pub found_closed : (a b : StoreSeen) (command : Option SizeNamed) (found : SizeFinding)
+    → IsSizeFound command a b found → NoneOpen a.sources b.sources
+found_closed a b None finding.NoNames h = (clean_texts a b _ h).closed
+found_closed a b None finding.Unread h = absurd h
+found_closed a b None (finding.BadSetup error) h = absurd h
+found_closed a b None (finding.BadFilter error) h = absurd h
+found_closed a b None (finding.BadReader error) h = absurd h
+found_closed a b None (finding.Unanswered why) h = absurd h
+found_closed a b None (finding.TooLong files) h = absurd h
+found_closed a b None (finding.Sized kind unit report) h = absurd h
+found_closed a b (Some named) finding.NoNames h = absurd h
+found_closed a b (Some named) finding.Unread h = unread_closed a b named h
+found_closed a b (Some named) (finding.BadSetup error) h = (clean_texts a b _ h.texts).closed
+found_closed a b (Some named) (finding.BadFilter error) h = (clean_bad_filter a b named error h).closed
+found_closed a b (Some named) (finding.BadReader error) h =
+    (clean_bad_reader a b named error h).closed
+found_closed a b (Some named) (finding.Unanswered why) h =
+    (clean_asked a b named h.job h.reader h.asked).closed
+found_closed a b (Some named) (finding.TooLong files) h =
+    let read = h.0.read_is in
+    none_open_then a.sources read.between.sources b.sources
+    (clean_asked a read.between named h.0.job h.0.reader read.asked).closed
+    (cpus_closed read.between b h.0.job 0 h.0.job.setup.cpus h.0.bytes files read.deals read.read_is)
+found_closed a b (Some named) (finding.Sized kind unit report) h =
+    let read = h.0.read_is in
+    none_open_then a.sources read.between.sources b.sources
+    (clean_asked a read.between named h.0.job h.0.reader read.asked).closed
+    (cpus_closed read.between b h.0.job 0 h.0.job.setup.cpus h.0.bytes report.files read.deals
+    read.read_is)

@@ -1,0 +1,10 @@
+pub mod Greatest
+pub mod Members
+pub mod Answering
+pub mod Measured
+pub mod CpuChains
+pub mod Clean
+pub mod MeantTexts
+pub mod Searched
+pub mod Completed
+pub mod Answered

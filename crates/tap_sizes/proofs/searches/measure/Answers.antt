@@ -1,0 +1,54 @@
+use Rattle.std.proofs.Common.{◌≡◌, ◌<◌, ◌≤◌, ◌^◌, ◌*◌, List, arith, length, refl, rules, subst}
+use Rattle.reader_pace.specs.Timelines.{end_of}
+use Rattle.tap_sizes.proofs.Answering.{answerable}
+use Rattle.tap_sizes.proofs.Measured.{deal_early, end_run, laws_of, marks_of, reported}
+use Rattle.tap_sizes.proofs.searches.measure.Goals as goal
+
+pub answers_of-requires-clause-answered : goal.answers_of-requires-clause-answered
+answers_of-requires-clause-answered c = (answerable c.args.reader.now c.requires.answered).pace
+
+pub answers_of-requires-clause-blocks : goal.answers_of-requires-clause-blocks
+answers_of-requires-clause-blocks c = (answerable c.args.reader.now c.requires.answered).blocks
+
+pub answers_of-requires-clause-some : goal.answers_of-requires-clause-some
+answers_of-requires-clause-some c =
+    let count = c.in_ok-dealt.ensures.count in
+    let some = c.members-members.ensures.some in
+    let value = c.members-members.ensures.value in
+    omega (arith, count, some, value)
+
+pub answers_of-requires-clause-early : goal.answers_of-requires-clause-early
+answers_of-requires-clause-early c =
+    let read = c.requires.read in
+    let soon : c.in_ok-dealt.dealt.end < 2 ^ 53 = search rules in
+    deal_early c.args.job.now c.args.reader.now read.bytes c.args.reads.deals.items
+    c.in_ok-dealt.dealt
+    (marks_of read.old read.new c.args.job.now read.bytes c.args.reads.files c.args.reads.deals.items
+    c.all_files_are_what_arrives.ensures read.read_is)
+    c.in_ok-dealt.ensures soon
+
+pub returns-then-lasts_too_long : goal.returns-then-lasts_too_long
+returns-then-lasts_too_long c = λ old new bytes read.
+    let long : 4294967295 * 1000000 < c.in_ok-dealt.dealt.end = search rules in
+    let same = end_run c.args.job.now bytes c.args.reads.deals.items c.in_ok-dealt.dealt
+    (marks_of old new c.args.job.now bytes c.args.reads.files c.args.reads.deals.items
+    c.all_files_are_what_arrives.ensures read)
+    c.in_ok-dealt.ensures (c.one_file_is_the_capture_of_a_run.ensures.captures bytes) in
+    (refl, omega (arith, long, same))
+
+pub returns : goal.returns
+returns c = λ old new bytes read.
+    let job = c.args.job.now in
+    let reader = c.args.reader.now in
+    let answered = c.in_ok-report.ensures in
+    reported job reader bytes c.args.reads.deals.items c.in_ok-dealt.dealt c.args.reads.files _ _
+    (marks_of old new job bytes c.args.reads.files c.args.reads.deals.items
+    c.all_files_are_what_arrives.ensures read)
+    c.in_ok-dealt.ensures (c.one_file_is_the_capture_of_a_run.ensures.captures bytes)
+    c.block_size-unit.ensures.value answered
+    (laws_of job reader bytes _ _ _ _ (answerable reader c.requires.answered).blocks
+    (let two = c.a_shape_is_sound.ensures.sound.two in omega (arith, two))
+    c.the_greatest_of_the_passes_is_the_least_ring.ensures
+    c.the_greatest_of_all_passes_is_the_least_ring_of_the_group.ensures
+    c.the_drops_of_courses_are_those_of_replays.ensures.most
+    c.the_drops_of_courses_are_those_of_replays.ensures.fewest c.a_job_has_a_sizing.ensures.blocks answered)

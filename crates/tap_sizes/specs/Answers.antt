@@ -1,0 +1,83 @@
+-- What the captures of a setup say about its rings.
+use Rattle.std.specs.Prelude.{◌≡◌, ℕ, ◌*◌, ◌<◌, true, false, List, [], length, slice_get, None, Some}
+use Rattle.fanout_group.specs.Plans.{rolls_over}
+use Rattle.frame_deals.specs.Dealings.{Dealing}
+use Rattle.pace_laws.specs.LeastRings.{AreFewestDrops, AreMostDrops, IsLeastOfGroup, IsLeastRing}
+use Rattle.pace_laws.specs.JobSizings.{sizing_of}
+use Rattle.pace_laws.specs.Sizings.{Sizing}
+use Rattle.reader_pace.specs.Timelines.{end_of}
+use Rattle.reader_pace.specs.declared.readers.Reader.{Reader}
+use Rattle.ring_sizes.specs.declared.phase_losses.DropRange.{DropRange}
+use Rattle.ring_sizes.specs.declared.tries.Reached.{Reached}
+use Rattle.ring_sizes.specs.declared.tries.Tries.{Tries}
+use Rattle.run_reports.specs.declared.ring_kind.RingKind.{RingKind}
+use Rattle.run_reports.specs.declared.ring_kind.RingKind.TheVariants.{Blocks}
+use Rattle.setup_text.specs.declared.jobs.Job.{Job}
+use Rattle.size_printing.specs.declared.size_reports.ReadFile.{ReadFile}
+use Rattle.size_printing.specs.declared.size_reports.SizeReport.{SizeReport}
+use Rattle.tap_outside.specs.Seen.{StoreSeen}
+use Rattle.tap_sizes.specs.Readings.{AreCpusRead, times_in}
+use Rattle.tap_sizes.specs.SizeTexts.{IsSizeAsked}
+use Rattle.tap_sizes.specs.SizeWords.{SizeNamed}
+use Rattle.tap_sizes.specs.Tried.{tries_by, unanswered_by}
+use Rattle.tp_layout.specs.Requests.{time_out_of}
+
+-- the texts were read and are accepted, and then the captures were read, which gave these bytes
+pub record AreCapturesRead (old new : StoreSeen) (named : SizeNamed) (job : Job)
+    (reader : Reader) (bytes : List (List ℕ)) (files : List ReadFile) : Type 0 where
+  pub between : StoreSeen
+  pub asked : IsSizeAsked old between named job reader
+  pub answered : unanswered_by reader ≡ None
+  pub deals : List Dealing
+  pub read_is : AreCpusRead between new job 0 job.setup.cpus bytes files deals
+
+-- the frames last longer than the clock of a schedule goes
+pub record IsTooLong (old new : StoreSeen) (named : SizeNamed) (files : List ReadFile)
+    : Type 0 where
+  pub job : Job
+  pub reader : Reader
+  pub bytes : List (List ℕ)
+  pub read_is : AreCapturesRead old new named job reader bytes files
+  pub long : 4294967295 * 1000000 < end_of (times_in bytes)
+
+-- what is tried of the reader
+abbrev pub tries_for : Job → Reader → Tries
+tries_for job reader = tries_by reader (time_out_of job.setup.shape)
+
+-- the fewest and the most packets that the setup's own ring of a member drops
+pub record IsRangeOf (job : Job) (reader : Reader) (sizing : Sizing) (member : ℕ)
+    (range : DropRange) : Type 0 where
+  pub fewest :
+      AreFewestDrops sizing member job.setup.shape.block_nr (tries_for job reader) range.fewest
+  pub most :
+      AreMostDrops sizing member job.setup.shape.block_nr (tries_for job reader) range.most
+
+-- a ring for each member, which is the least in the replays of the group, and what the setup's own
+-- ring drops there
+pub record AreMembersAnswered (job : Job) (reader : Reader) (sizing : Sizing)
+    (report : SizeReport) : Type 0 where
+  pub count : length report.members ≡ job.setup.plan.members
+  pub members : (member : ℕ) (ring : Reached) → slice_get report.members member ≡ Some ring
+      → IsLeastRing sizing member (tries_for job reader) ring
+  pub ranges : length report.drops ≡ job.setup.plan.members
+  pub drops : (member : ℕ) (range : DropRange) → slice_get report.drops member ≡ Some range
+      → IsRangeOf job reader sizing member range
+
+-- the answers over some captures: the least ring of the group, and without rollover those of the
+-- members
+pub record IsAnswered (job : Job) (reader : Reader) (sizing : Sizing) (report : SizeReport)
+    : Type 0 where
+  pub group : IsLeastOfGroup sizing (tries_for job reader) report.group
+  pub members : rolls_over job.setup.plan ≡ false → AreMembersAnswered job reader sizing report
+  pub none : rolls_over job.setup.plan ≡ true → (report.members ≡ []) × (report.drops ≡ [])
+
+-- the answers of a run of the program
+pub record IsSized (old new : StoreSeen) (named : SizeNamed) (kind : RingKind) (unit : ℕ)
+    (report : SizeReport) : Type 0 where
+  pub job : Job
+  pub reader : Reader
+  pub bytes : List (List ℕ)
+  pub read_is : AreCapturesRead old new named job reader bytes report.files
+  pub kind_is : kind ≡ Blocks
+  pub unit_is : unit ≡ job.setup.shape.block_size
+  pub answers : IsAnswered job reader (sizing_of job reader bytes) report

@@ -1,0 +1,11 @@
+pub mod SizeWords
+pub mod SizeTexts
+pub mod SizeNames
+pub mod Readings
+pub mod Tried
+pub mod Answers
+pub mod SizeFindings
+pub mod Endings
+pub mod Complete
+pub mod SizeNumbers
+pub mod inside

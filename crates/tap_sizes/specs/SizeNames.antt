@@ -1,0 +1,40 @@
+-- Which files the program reads.
+use Rattle.std.specs.Prelude.{◌≡◌, ℕ, Bool, List, [], ◌∷◌, ◌++◌, map, option_to_list, ⊤, Option}
+use Rattle.std.specs.Prelude.{None, Some, IsTrue, All, IfSome, Result, Ok, Err}
+use Rattle.std.specs.List.{AllByRecursion}
+use Rattle.setup_text.specs.declared.commands.Command.TheVariants.{Replay}
+use Rattle.setup_text.specs.declared.setup_error.SetupError.{SetupError}
+use Rattle.setup_text.specs.declared.setups.Setup.{Setup}
+use Rattle.tap_outside.specs.Contents.{Contents}
+use Rattle.tap_outside.specs.Seen.{StoreSeen}
+use Rattle.tap_reading.specs.Readers.{setup_for}
+use Rattle.tap_running.specs.Texts.{text_in}
+use Rattle.tap_sizes.specs.SizeWords.{SizeNamed}
+
+-- only the setup if it isn't accepted; else the filter, the reader's text and the captures too
+abbrev pub size_names : SizeNamed → Result Setup SetupError → List (List ℕ)
+size_names named (Err error) = named.setup ∷ []
+size_names named (Ok setup) =
+    named.setup
+    ∷ (option_to_list setup.filter ++ (named.reader ∷ map (λ cpu. cpu.file) setup.cpus))
+
+-- the setup that the store holds; a name that isn't held holds the empty text
+abbrev pub size_setup_held : Contents → SizeNamed → Result Setup SetupError
+size_setup_held files named = setup_for Replay (text_in files named.setup)
+
+-- each of the names is meant for reading; nothing is required of a store that doesn't report what
+-- it holds
+abbrev pub AreMeantIn : SizeNamed → Option Contents → (List ℕ → Bool) → Type 0
+AreMeantIn named None meant = ⊤
+AreMeantIn named (Some files) meant =
+    AllByRecursion (λ name. IsTrue (meant name)) (size_names named (size_setup_held files named))
+
+abbrev pub AreMeantToSize : Option SizeNamed → StoreSeen → Type 0
+AreMeantToSize None store = ⊤
+AreMeantToSize (Some named) store = AreMeantIn named store.held store.to_read
+
+-- what is read after the setup is meant for reading
+pub record IsRestMeant (meant : List ℕ → Bool) (named : SizeNamed) (setup : Setup) : Type 0 where
+  pub filter : IfSome setup.filter (λ name. IsTrue (meant name))
+  pub reader : IsTrue (meant named.reader)
+  pub captures : All (λ cpu. IsTrue (meant cpu.file)) setup.cpus

@@ -1,0 +1,107 @@
+-- What the passes over what the members are given find.
+use Rattle.std.specs.Prelude.{◌≡◌, ℕ, ◌<◌, ◌≤◌, ◌^◌, max, Bool, true, false, List, [], ◌∷◌, All, ⊤, ◌==◌, nat_lt}
+use Rattle.std.specs.Prelude.{if◌then◌else◌, None, Some}
+use Rattle.fanout_group.specs.Plans.{rolls_over}
+use Rattle.pace_laws.specs.Paces.{pace_of, stalls_of}
+use Rattle.reader_pace.specs.declared.readers.Reader.{Reader}
+use Rattle.ring_sizes.specs.Phases.{AreTried, IsFirstFewest, IsFirstMost, begun, drops_of, least_of}
+use Rattle.ring_sizes.specs.declared.paces.Arrival.{Arrival}
+use Rattle.ring_sizes.specs.declared.paces.Pace.{Pace}
+use Rattle.ring_sizes.specs.declared.paces.Stall.{Stall}
+use Rattle.ring_sizes.specs.declared.phase_losses.DropRange.{DropRange}
+use Rattle.ring_sizes.specs.declared.tries.Reached.{Reached}
+use Rattle.ring_sizes.specs.declared.tries.Tries.{Tries}
+use Rattle.setup_text.specs.declared.setups.Setup.{Setup}
+use Rattle.size_printing.specs.declared.size_reports.ReadFile.{ReadFile}
+use Rattle.size_printing.specs.declared.size_reports.SizeReport.{SizeReport}
+use Rattle.tap_sizes.specs.Tried.{tries_by}
+use Rattle.tp_layout.specs.Requests.{room_of, time_out_of}
+
+-- the arrivals of a ring come early enough for the passes
+abbrev pub IsEarly : List Arrival → Type 0
+IsEarly arrivals = All (λ arrival. arrival.at < 2 ^ 53) arrivals
+
+-- when the timer ticks and the reader reads, and until when
+pub record Clocks : Type 0 where
+  pub pace : Pace
+  pub stalls : List Stall
+  pub end : ℕ
+
+-- the number of blocks that a pass finds at a phase and a beginning
+abbrev pub least_by : ℕ → Clocks → List Arrival → ℕ → ℕ → ℕ
+least_by room clocks arrivals phase from =
+    least_of room clocks.stalls (begun clocks.pace phase from) arrivals clocks.end
+
+-- the greatest of them over several members
+abbrev pub most_by : ℕ → Clocks → List (List Arrival) → ℕ → ℕ → ℕ
+most_by room clocks [] phase from = 0
+most_by room clocks (arrivals ∷ all) phase from =
+    max (least_by room clocks arrivals phase from) (most_by room clocks all phase from)
+
+-- each ring is that of its member
+abbrev pub AreFirstMost : ℕ → Clocks → Tries → List (List Arrival) → List Reached → Type 0
+AreFirstMost room clocks tries [] [] = ⊤
+AreFirstMost room clocks tries (arrivals ∷ all) (ring ∷ rings) =
+    IsFirstMost tries (least_by room clocks arrivals) ring × AreFirstMost room clocks tries all rings
+AreFirstMost room clocks tries all rings = ⊥
+
+-- the packets that a course drops at a phase and a beginning
+abbrev pub drops_by : ℕ → ℕ → Clocks → List Arrival → ℕ → ℕ → ℕ
+drops_by room blocks clocks arrivals phase from =
+    drops_of room blocks clocks.stalls (begun clocks.pace phase from) arrivals clocks.end
+
+-- the fewest and the most
+pub record IsDropRange (room blocks : ℕ) (clocks : Clocks) (tries : Tries)
+    (arrivals : List Arrival) (range : DropRange) : Type 0 where
+  pub fewest : IsFirstFewest tries (drops_by room blocks clocks arrivals) range.fewest
+  pub most : IsFirstMost tries (drops_by room blocks clocks arrivals) range.most
+
+-- each range is that of its member
+abbrev pub AreDropRanges :
+    ℕ → ℕ → Clocks → Tries → List (List Arrival) → List DropRange → Type 0
+AreDropRanges room blocks clocks tries [] [] = ⊤
+AreDropRanges room blocks clocks tries (arrivals ∷ all) (range ∷ ranges) =
+    IsDropRange room blocks clocks tries arrivals range
+    × AreDropRanges room blocks clocks tries all ranges
+AreDropRanges room blocks clocks tries all ranges = ⊥
+
+-- whether a ring is greater than another, or as great at an earlier phase or beginning
+abbrev pub is_greater : Reached → Reached → Bool
+is_greater ring other =
+    if ring.number == other.number
+    then (if ring.phase == other.phase then nat_lt ring.from other.from
+    else nat_lt ring.phase other.phase)
+    else nat_lt other.number ring.number
+
+-- the greatest of some rings and of one more, the first of them
+abbrev pub greatest_ring : Reached → List Reached → Reached
+greatest_ring found [] = found
+greatest_ring found (ring ∷ rings) =
+    greatest_ring (if is_greater ring found then ring else found) rings
+
+-- the answers for members that are given these arrivals, with which a run ends at a moment
+pub record IsAnsweredBy (setup : Setup) (reader : Reader) (all : List (List Arrival))
+    (end : ℕ) (files : List ReadFile) (report : SizeReport) : Type 0 where
+  pub files_are : report.files ≡ files
+  -- the pace of the reader
+  pub pace : Pace
+  pub pace_is : pace_of (time_out_of setup.shape) reader.pace ≡ Some pace
+  pub tried : AreTried pace (tries_by reader (time_out_of setup.shape))
+  pub few : (tries_by reader (time_out_of setup.shape)).from_end ≤ 2 ^ 32
+  -- the rings of all members
+  pub rings : List Reached
+  pub rings_are :
+      AreFirstMost (room_of setup.shape)
+      (record { pace = pace; stalls = stalls_of reader.stalls; end = end })
+      (tries_by reader (time_out_of setup.shape)) all rings
+  pub group :
+      IsFirstMost (tries_by reader (time_out_of setup.shape))
+      (most_by (room_of setup.shape)
+      (record { pace = pace; stalls = stalls_of reader.stalls; end = end }) all) report.group
+  -- they are reported without rollover
+  pub members : rolls_over setup.plan ≡ false → report.members ≡ rings
+  pub drops : rolls_over setup.plan ≡ false
+      → AreDropRanges (room_of setup.shape) setup.shape.block_nr
+      (record { pace = pace; stalls = stalls_of reader.stalls; end = end })
+      (tries_by reader (time_out_of setup.shape)) all report.drops
+  pub none : rolls_over setup.plan ≡ true → (report.members ≡ []) × (report.drops ≡ [])

@@ -1,0 +1,203 @@
+//! The answers: the least ring of each member and of the group.
+ghost use Rattle.std.specs.Prelude.{◌≡◌, ◌<◌, ◌≤◌, ◌^◌, ℕ, false, None, IfOk, get_or, length, if◌then◌else◌};
+ghost use Rattle.std.specs.List.{AllByRecursion};
+ghost use Rattle.reader_pace.specs.Sound.{IsReader};
+ghost use Rattle.ring_sizes.specs.declared.tries.Reached.{Reached};
+ghost use Rattle.ring_sizes.specs.Phases.{AreTried, IsFirstMost};
+ghost use Rattle.setup_text.specs.Sound.{IsSetup};
+ghost use Rattle.tap_sizes.specs.Tried.{unanswered_pace};
+ghost use Rattle.tap_sizes.specs.inside.Passes.{AreDropRanges, AreFirstMost, IsAnsweredBy};
+ghost use Rattle.tap_sizes.specs.inside.Passes.{IsDropRange, IsEarly, greatest_ring, is_greater};
+ghost use Rattle.tap_sizes.specs.inside.Passes.{least_by};
+ghost use Rattle.tp_layout.specs.Requests.{room_of, time_out_of};
+
+use crate::reader_tries::{pace_of, rolls_over, stalls_of, tries_of};
+use crate::size_texts::time_out;
+use frame_deals::{ArrivalList, Dealt};
+use frame_view::Memory;
+use reader_pace::Reader;
+use ring_sizes::{DropRange, Pace, Reached, Stall, Tries, least_of_all, losses_of_all};
+use setup_text::Setup;
+use size_printing::{DropRanges, ReachedList, ReadFiles, SizeReport};
+use std::alloc::Global;
+use tp_layout::Shape;
+
+/// More arrivals than memory holds.
+const TOO_MANY: usize = 1 << 60;
+
+/// What is found out about the rings of a setup, from what its members are given.
+pub(crate) fn answers_of(
+    alloc: Global,
+    setup: &Setup,
+    reader: &Reader,
+    dealt: &Dealt,
+    files: ReadFiles,
+) -> Result<SizeReport, Memory>
+    requires setup { IsSetup setup.now }
+    requires reader { (cpus : ℕ) × IsReader cpus (time_out_of setup.now.shape) reader.now }
+    requires answered { unanswered_pace reader.now.pace ≡ None }
+    requires blocks { reader.now.slots ≡ false }
+    requires some { 0 < length dealt.now.members.items }
+    requires early { AllByRecursion IsEarly dealt.now.members.items }
+    requires soon { dealt.now.end < 2 ^ 53 }
+    ensures { IfOk result
+        (IsAnsweredBy setup.now reader.now dealt.now.members.items dealt.now.end files) }
+{
+    let tov = time_out(setup);
+    let pace = pace_of(reader.pace, tov);
+    let tries = tries_of(reader, tov);
+    let stalls = stalls_of(alloc, reader)?;
+    let room = setup.shape.room();
+    let rings = least_rings(alloc, room, &pace, &tries, stalls.as_slice(), dealt)?;
+    let group = greatest(rings.as_slice());
+    if rolls_over(&setup.plan) {
+        return Ok(SizeReport {
+            files,
+            members: ReachedList::new(alloc),
+            group,
+            drops: DropRanges::new(alloc),
+        });
+    }
+    let drops = drop_ranges(alloc, &setup.shape, &pace, &tries, stalls.as_slice(), dealt)?;
+    Ok(SizeReport {
+        files,
+        members: rings,
+        group,
+        drops,
+    })
+}
+
+/// The least ring of each member.
+fn least_rings(
+    alloc: Global,
+    room: u32,
+    pace: &Pace,
+    tries: &Tries,
+    stalls: &[Stall],
+    dealt: &Dealt,
+) -> Result<ReachedList, Memory>
+    requires tried { AreTried pace.now tries.now }
+    requires early { AllByRecursion IsEarly dealt.now.members.items }
+    requires soon { dealt.now.end < 2 ^ 53 }
+    ensures { IfOk result (AreFirstMost room
+        (record { pace = pace.now; stalls = stalls.now; end = dealt.now.end })
+        tries.now dealt.now.members.items) }
+{
+    let mut rings = ReachedList::new(alloc);
+    for arrivals in &dealt.members {
+        let ring = least_ring(room, pace, tries, stalls, arrivals, dealt.end)?;
+        rings.push(ring)?;
+    }
+    Ok(rings)
+}
+
+/// The least ring of a member, and the first phase and beginning at which it is needed.
+fn least_ring(
+    room: u32,
+    pace: &Pace,
+    tries: &Tries,
+    stalls: &[Stall],
+    arrivals: &ArrivalList,
+    end: u64,
+) -> Result<Reached, Memory>
+    requires tried { AreTried pace.now tries.now }
+    requires early { IsEarly arrivals.now }
+    requires soon { end < 2 ^ 53 }
+    ensures { IfOk result (IsFirstMost tries.now (least_by room
+        (record { pace = pace.now; stalls = stalls.now; end = end }) arrivals.now)) }
+{
+    // No memory holds so many.
+    if TOO_MANY <= arrivals.len() {
+        return Err(Memory);
+    }
+    Ok(least_of_all(room, pace, tries, stalls, arrivals.as_slice(), end))
+}
+
+/// The fewest and the most packets that the setup's own ring of each member drops.
+fn drop_ranges(
+    alloc: Global,
+    shape: &Shape,
+    pace: &Pace,
+    tries: &Tries,
+    stalls: &[Stall],
+    dealt: &Dealt,
+) -> Result<DropRanges, Memory>
+    requires tried { AreTried pace.now tries.now }
+    requires early { AllByRecursion IsEarly dealt.now.members.items }
+    requires soon { dealt.now.end < 2 ^ 53 }
+    ensures { IfOk result (AreDropRanges (room_of shape.now) shape.now.block_nr
+        (record { pace = pace.now; stalls = stalls.now; end = dealt.now.end })
+        tries.now dealt.now.members.items) }
+{
+    let mut ranges = DropRanges::new(alloc);
+    for arrivals in &dealt.members {
+        let range = drop_range(shape, pace, tries, stalls, arrivals, dealt.end)?;
+        ranges.push(range)?;
+    }
+    Ok(ranges)
+}
+
+/// The fewest and the most packets that a member's ring drops.
+fn drop_range(
+    shape: &Shape,
+    pace: &Pace,
+    tries: &Tries,
+    stalls: &[Stall],
+    arrivals: &ArrivalList,
+    end: u64,
+) -> Result<DropRange, Memory>
+    requires tried { AreTried pace.now tries.now }
+    requires early { IsEarly arrivals.now }
+    requires soon { end < 2 ^ 53 }
+    ensures { IfOk result (IsDropRange (room_of shape.now) shape.now.block_nr
+        (record { pace = pace.now; stalls = stalls.now; end = end }) tries.now arrivals.now) }
+{
+    // No memory holds so many.
+    if TOO_MANY <= arrivals.len() {
+        return Err(Memory);
+    }
+    let (room, blocks) = (shape.room(), shape.block_nr());
+    Ok(losses_of_all(room, blocks, pace, tries, stalls, arrivals.as_slice(), end))
+}
+
+/// The greatest of some rings, and of those that are as great the one at the first phase and
+/// beginning.
+fn greatest(rings: &[Reached]) -> Reached
+    requires { 0 < length rings.now }
+    ensures { (first : Reached) × (first ≡ get_or rings.now 0 first)
+        × (result ≡ greatest_ring first rings.now) }
+{
+    greatest_ring(rings[0], rings)
+}
+
+/// The greatest of some rings and of one more, and of those that are as great the one at the first
+/// phase and beginning.
+fn greatest_ring(first: Reached, rings: &[Reached]) -> Reached
+    ensures { result ≡ greatest_ring first rings.now }
+{
+    let mut found = first;
+    for ring in rings {
+        found = greater(*ring, found);
+    }
+    found
+}
+
+/// The greater of a ring and the one that was found.
+fn greater(ring: Reached, found: Reached) -> Reached
+    ensures { result ≡ (if is_greater ring found then ring else found) }
+{
+    if is_greater(ring, found) { ring } else { found }
+}
+
+/// Whether a ring is greater than another, or as great at an earlier phase or beginning.
+fn is_greater(ring: Reached, other: Reached) -> bool
+    ensures { result ≡ is_greater ring other }
+{
+    if ring.number != other.number {
+        return other.number < ring.number;
+    }
+    if ring.phase != other.phase {
+        return ring.phase < other.phase;
+    }
+    ring.from < other.from
+}

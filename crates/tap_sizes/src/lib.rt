@@ -1,0 +1,16 @@
+//! Which rings are never full: from the words of the program to what it prints.
+#![tactic(auto)]
+
+mod answers;
+mod asked_sizes;
+mod calls;
+mod cpu_reads;
+mod outcomes;
+mod reader_stops;
+mod reader_tries;
+mod searches;
+mod size_findings;
+mod size_texts;
+
+pub use calls::run_size;
+pub use outcomes::{SizeOutcome, SizeStatus, Unanswered};
