@@ -1,4 +1,5 @@
-# Completion of ringtap's words for bash: `source tools/ringtap.bash`. Made by tools/make_man.py from the documents.
+# Completion of ringtap's words for bash: `source tools/ringtap.bash`.
+# Made by tools/make_man.py from the documents.
 _ringtap() {
     local files=0
     COMPREPLY=()

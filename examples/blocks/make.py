@@ -28,7 +28,8 @@ def capture(frames: list[bytes]) -> bytes:
 
 PLAIN = [frame(number) for number in range(100)]
 TAGGED = [frame(number, 64, b"\x81\x00\xa0\x2a") for number in range(3)] + [frame(3)]
-# Frames, blocks, lines of the setup, the schedule, and the moment of the image: handed over and given back.
+# Frames, blocks, lines of the setup, the schedule, and the moment of the image: handed over and
+# given back.
 CASES: dict[str, tuple[list[bytes], int, str, str, int, int]] = {
     "full": (PLAIN[:60], 4, "", "", 2, 0),
     "timeout": (PLAIN[:5], 4, "", "feed 0\n" * 5 + "tick 8\n", 1, 0),

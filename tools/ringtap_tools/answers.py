@@ -1,0 +1,182 @@
+"""How the least ring is found: at every whole millisecond of the timer by ringsize, or else by the
+tools' own model, `ringtap replay` judging, or by that program alone at some phases."""
+from __future__ import annotations
+
+from dataclasses import replace
+
+from .about import refuse_filtered
+from .files import Fault
+from .ringsizes import Finder
+from .runs import Progress, Report
+from .search import Least, Model, compare, key_of, keys_of, rung
+from .trials import LEAST_BLOCKS, ROLLOVER, Result, Ring, Trials, begun, least_of, lines_of
+
+# At which an answer of fewer phases is run again, and those under other keys.
+SURE_PHASES, KEY_PHASES = 250, 8
+
+
+def printed_counts(report: Report) -> list[tuple[int, ...]]:
+    return [(one.packets, one.drops, one.freezes, one.blocks) for one in report.members]
+
+
+def number_words(count: int, what: str) -> str:
+    return f"{count:,} {what}" if count == 1 else f"{count:,} {what}s"
+
+
+class Search:
+    """The search at every whole millisecond: ringsize or the model finds, and ringtap judges."""
+
+    def __init__(self, trials: Trials, model: Model, keys: int, finder: Finder) -> None:
+        self.trials, self.model, self.keys, self.finder = trials, model, keys, finder
+        self.judgement: list[str] = []
+        self.key_words: list[str] = []
+        self.filtered = 0
+        self.reports: dict[tuple[Ring, Least, int], Report] = {}
+
+    def run(self, ring: Ring, least: Least, phase: int) -> Report:
+        """A run of the program, which the model has to agree with. Key and beginning are those of
+        the least ring."""
+        if (ring, least, phase) in self.reports:
+            return self.reports[ring, least, phase]
+        report = self.trials.run(ring, phase, key=least.key, begin=least.begin)
+        self.reports[ring, least, phase] = report
+        mine = self.model_for(least).courses(ring, phase, least.key)
+        compare(ring, phase, mine, printed_counts(report))
+        refuse_filtered(self.trials.fed.about, report.arrivals, report.filtered)
+        self.filtered = report.filtered
+        return report
+
+    def model_for(self, least: Least) -> Model:
+        """The model with the reader's beginning of the least ring."""
+        return self.model.with_pace(begun(self.model.pace, least.begin))
+
+    def result(self, ring: Ring, least: Least) -> Result:
+        """A ring: at all phases by the model, and by the program at the worst and the best one."""
+        losses = self.model_for(least).losses(ring, least.key)
+        worst = least.phase if not losses.most else losses.drops.index(losses.most)
+        best = losses.drops.index(losses.fewest)
+        phases = (worst,) if losses.fewest == losses.most else (worst, best)
+        reports = tuple(self.run(ring, least, phase) for phase in phases)
+        return Result(ring, phases, reports, tuple(losses.drops), least.key, least.begin)
+
+    def line(self, rings: list[Ring], is_open: bool) -> tuple[list[Result], Result | None]:
+        """The rings of a grid that differ in the number of blocks alone. Where that number is open,
+        it is doubled up to the answer."""
+        ring = rings[0]
+        keys = keys_of(self.model, ring, self.keys if ring.mode == "hash" else 0)
+        least, found = self.finder.find(self.model, self.trials, ring, keys.worst)
+        if keys.others:
+            self.key_words.append(keys.words())
+        wanted, blocks = {one.block_nr for one in rings}, max(least.blocks, LEAST_BLOCKS)
+        if is_open:
+            wanted |= set(rung(ring, blocks))
+        elif min(wanted) < blocks <= max(wanted):
+            wanted |= {blocks, blocks - 1}
+        counts = [count for count in sorted(wanted) if replace(ring, block_nr=count).fits]
+        results = [self.result(replace(ring, block_nr=count), least) for count in counts]
+        answer = next((one for one in results if one.ring.block_nr >= blocks), None)
+        self.judgement.append(self.judged(ring, least, found, answer))
+        return results, answer
+
+    def judged(self, ring: Ring, least: Least, found: str, answer: Result | None) -> str:
+        """What the program says at the worst phase: of the answer, and of one block less."""
+        blocks = max(least.blocks, LEAST_BLOCKS)
+        sides = [self.side(ring, least, blocks), self.side(ring, least, least.blocks - 1)]
+        where = f"at phase {least.phase} of {len(self.model.phases(ring))}"
+        said = f"{found} {where}, and there `ringtap replay` judged: {'; '.join(sides)}"
+        if answer is None or answer.ring.block_nr != blocks:
+            return f"the least ring that never freezes has {blocks} blocks; {said}"
+        return said
+
+    def side(self, ring: Ring, least: Least, count: int) -> str:
+        tried = replace(ring, block_nr=count)
+        words = number_words(count, "block")
+        if count < LEAST_BLOCKS or not tried.fits:
+            return f"no setup has {words}, so that side wasn't run"
+        freezes = self.run(tried, least, least.phase).freezes
+        if bool(freezes) != (count < least.blocks):
+            raise Fault(
+                f"{tried.words()}, at phase {least.phase}: the program counts {freezes} freezes,"
+                f" and {least.blocks} blocks were found to be the least that never freeze"
+            )
+        return f"{words} {'freeze' if freezes else 'never freeze'}"
+
+
+def every_phase(
+    search: Search, grid: list[Ring], is_open: bool
+) -> tuple[list[Result], Result | None]:
+    """All lines of the grid, and the answer of the least memory."""
+    results, answers = [], []
+    lines: dict[Ring, list[Ring]] = {}
+    for ring in grid:
+        lines.setdefault(replace(ring, block_nr=0), []).append(ring)
+    for rings in lines.values():
+        made, answer = search.line(rings, is_open)
+        results += made
+        answers += [answer] if answer else []
+
+    def size(result: Result) -> tuple[int, int, int]:
+        return result.ring.memory, result.ring.members, result.ring.block_nr
+
+    return results, min(answers, key=size, default=None)
+
+
+def few_phases(
+    trials: Trials, grid: list[Ring], is_open: bool, keys: int, is_sure: bool
+) -> tuple[list[Result], Result | None, list[str]]:
+    """The program at some phases; its answer is run at more of them, and under other keys."""
+    results = trials.halved(trials.doubled(grid) if is_open else trials.run_all(grid))
+    while least := least_of(results):
+        more = raised(trials, least, keys, is_sure)
+        if more is None:
+            break
+        results = [one for one in results if one.ring != least.ring] + [more]
+        larger = replace(least.ring, block_nr=least.ring.block_nr + 1)
+        if larger.fits and larger not in [one.ring for one in results]:
+            results += trials.run_all([larger])
+    ordered, said = [result for line in lines_of(results) for result in line], []
+    if least and is_sure and len(least.phases) > 1:
+        said.append(f"the answer was run at {SURE_PHASES} phases")
+    if least and keys and least.ring.mode.startswith("hash"):
+        said.append(f"and under {keys} further keys, since a kernel's is a secret of its boot")
+    return ordered, least, [", ".join(said)] if said else []
+
+
+def raised(trials: Trials, least: Result, keys: int, is_sure: bool) -> Result | None:
+    """The answer's ring again, at more phases and under other keys: the run that loses, if any."""
+    ring, few = least.ring, trials.phases
+    wanted: list[tuple[int, str | None]] = []
+    if is_sure:
+        trials.phases = SURE_PHASES
+        wanted += [(phase, None) for phase in trials.phases_of(ring)]
+    if ring.mode.startswith("hash"):
+        trials.phases = min(few, KEY_PHASES)
+        others = [key_of(number) for number in range(1, keys + 1)]
+        wanted += [(phase, key) for key in others for phase in trials.phases_of(ring)]
+    trials.phases = few
+    progress = Progress(len(wanted), "runs of the answer")
+    for phase, key in wanted:
+        report = trials.run(ring, phase, key=key)
+        progress.step()
+        if report.drops:
+            phases = (phase, least.worst_phase)
+            return Result(ring, phases, (report, least.worst), (), key)
+    return None
+
+
+def rolls_over(ring: Ring) -> bool:
+    return ring.members > 1 and (ring.mode.endswith(ROLLOVER) or ring.mode == "rollover")
+
+
+def kernel_words(model: Model, results: list[Result]) -> list[str]:
+    """What the rings lose as a kernel rolls over, at the same phase and under the same key."""
+    said = []
+    for result in filter(lambda one: rolls_over(one.ring), results):
+        ring, phase, key = result.ring, result.worst_phase, result.key
+        compare(ring, phase, model.courses(ring, phase, key), printed_counts(result.worst))
+        lost = sum(one.drops for one in model.courses(ring, phase, key, is_kernel=True))
+        said.append(
+            f"as a kernel rolls over, by the tool's own model: {lost:,} dropped by {ring.words()};"
+            f" the program drops {result.drops:,}"
+        )
+    return said

@@ -1,0 +1,308 @@
+"""Says what a ring loses over captures of any size, of any number of CPUs and members.
+
+What `ringtap replay` would print is added up from runs of pieces. Each member stands alone, and its
+run is cut at pauses, after which a ring is as a new one. Where none comes it is cut at any moment,
+and the next piece begins with what brings a new ring to the state there; such a piece is run a
+second time, with two rings more before it, and has to give the same. The readers and the timer are
+those of `schedule.py`.
+
+Groups that roll over, and reassembly, are refused: their members, and their pieces, don't stand
+alone.
+"""
+from __future__ import annotations
+
+import argparse
+import sys
+import time
+from dataclasses import dataclass, field
+from pathlib import Path
+
+from .cut_members import Cut, Limits, Member, Shape
+from .cut_pieces import Piece, less
+from .cut_rings import Counts
+from .deals import Clock, CpuStream, PieceRoom, fed, homes_of
+from .files import Fault, Setup, read_setup
+from .model import Timer, need_of, room_of
+from .runs import Report, add_program, program_of
+from .schedule import DEFAULT_TIMEOUT, Pace, add_pace, pace_of
+from .words import ToolParser, add_json, print_json
+
+MEBIBYTE = 1_048_576
+LEAST_PIECE, LARGEST_PIECE = 1024, 8 * MEBIBYTE  # bytes of a capture
+WAYS = {
+    "new": "at the run's begin",
+    "pause": "at a pause",
+    "state": "with a beginning that brings a new ring to the state there",
+}
+
+
+@dataclass
+class MemberCount:
+    """What the lines of a member print."""
+
+    blocks: int = 0
+    stretches: list[Counts] = field(default_factory=list)
+    carried: Counts = (0, 0, 0)  # since the statistics were last taken
+
+    def add(self, piece: Piece, stretches: list[Counts], blocks: int) -> None:
+        """Adds what a piece printed, without what its beginning counted."""
+        first, *rest = stretches
+        stretches = [less(first, piece.base), *rest]
+        for one in stretches[:-1]:
+            self.stretches.append(plus(self.carried, one))
+            self.carried = (0, 0, 0)
+        self.carried = plus(self.carried, stretches[-1])
+        self.blocks += blocks - piece.base_blocks
+
+    def totals(self) -> Counts:
+        found = self.carried
+        for one in self.stretches:
+            found = plus(found, one)
+        return found
+
+
+def plus(one: Counts, other: Counts) -> Counts:
+    return one[0] + other[0], one[1] + other[1], one[2] + other[2]
+
+
+def stretches_of(report: Report) -> list[Counts]:
+    """What each `count` line of a piece says, and what was counted after the last one."""
+    member = report.members[0]
+    left = (member.packets, member.drops, member.freezes)
+    for one in member.counts:
+        left = less(left, one)
+    return [*member.counts, left]
+
+
+class LongRun:
+    """A run in pieces."""
+
+    def __init__(self, setup: Setup, room: PieceRoom, pace: Pace, args: argparse.Namespace) -> None:
+        self.setup, self.room, self.pace = setup, room, pace
+        self.command = "replay2" if args.replay2 else "replay"
+        self.ways = dict.fromkeys(WAYS, 0)
+        self.again = 0  # pieces that were run a second time
+        self.limits = Limits(args.piece)
+        self.streams = [
+            CpuStream(room, cpu, path, max(LEAST_PIECE, 2 * args.piece // (1 + len(setup.cpus))))
+            for cpu, path in enumerate(setup.capture_paths())
+        ]
+        self.shape, self.lines = shape_of(setup, args.replay2)
+        timeout = self.shape.timeout
+        every = timeout if pace.tick is None else pace.tick
+        self.timer = Timer(every if timeout else 0, timeout, pace.phase)
+        count = setup.number("members", 1)
+        self.counts = [MemberCount() for _ in range(count)]
+        self.members = [self.member(at) for at in range(count)]
+
+    def member(self, at: int) -> Member:
+        def run(cut: Cut) -> None:
+            self.run(at, cut)
+
+        return Member(self.shape, self.timer, self.pace, self.limits, run)
+
+    def run(self, member: int, cut: Cut) -> None:
+        """Runs a piece, which the tool's own state of the ring has to agree with, and adds up what
+        it printed."""
+        piece = cut.piece
+        stretches, blocks = self.printed(piece)
+        self.ways[cut.way] += 1
+        if cut.again:
+            self.again += 1
+            others, other_blocks = self.printed(cut.again)
+            mine = [less(stretches[0], piece.base), *stretches[1:]], blocks - piece.base_blocks
+            if (others[cut.before :], other_blocks - cut.blocks) != mine:
+                raise Fault(
+                    f"member {member}: a piece of {len(piece.records)} packets gives {mine}, and"
+                    f" {others[cut.before:], other_blocks - cut.blocks} with two rings before it"
+                )
+        # The open block at the end of a piece is in the next one again.
+        self.counts[member].add(piece, stretches, piece.ring.retired)
+
+    def printed(self, piece: Piece) -> tuple[list[Counts], int]:
+        """What the program prints of a piece: the counts and the blocks."""
+        report = self.room.run(self.lines, piece.capture(), piece.schedule(), self.command)
+        found = stretches_of(report), report.members[0].blocks
+        mine = piece.all_stretches(), piece.ring.printed_blocks()
+        if found != mine:
+            raise Fault(
+                f"a piece of {len(piece.records)} packets: the program printed {found} (packets,"
+                f" drops, freezes of each stretch; blocks), and the tool's own state gives {mine}"
+            )
+        return found
+
+    def make(self) -> None:
+        """The whole run."""
+        clock, end, ticket = Clock(self.pace), 0, 0
+        homes, mode = homes_of(self.setup), self.setup.word("mode", "cpu")
+        members, shape = self.members, self.shape
+        progress = Progress(self.streams)
+        needs: dict[int, int] = {}
+        for arrival in fed(self.streams):
+            end = clock.time(arrival.time, arrival.wire)
+            passed = arrival.passed
+            if passed:
+                if mode == "hash":
+                    home = passed.hash % len(members)
+                else:
+                    home = ticket % len(members) if mode == "lb" else homes[arrival.cpu]
+                need = needs.get(passed.snap)
+                if need is None:
+                    need = needs[passed.snap] = need_of(passed.snap, shape.room)
+                members[home].give(end, need, passed.record)
+            ticket += arrival.arrives
+            progress.step()
+        for member, count in zip(members, self.counts):
+            member.advance(end, end + 1)
+            member.end()
+            count.blocks += member.ring.printed_blocks() - member.ring.retired
+        progress.finish()
+
+
+def shape_of(setup: Setup, is_v2: bool) -> tuple[Shape, list[str]]:
+    """What the rings are, and the lines of a setup that has one of them."""
+    words = ("block_size", "block_nr", "frame_size", "frame_nr", "priv", "tov", "features")
+    lines = [f"{word} {setup.number(word)}" for word in words if word in setup.values]
+    block_size, private = setup.number("block_size"), setup.number("priv", 0)
+    room = room_of(block_size, private)
+    if is_v2:
+        shape = Shape(setup.number("frame_nr"), room, setup.number("frame_size"), 0)
+    else:
+        timeout = setup.number("tov", 0) or DEFAULT_TIMEOUT
+        shape = Shape(setup.number("block_nr"), room, block_size, timeout)
+    return shape, [*lines, "out nowhere"]
+
+
+def refuse(setup: Setup) -> None:
+    """Ends the tool where pieces, or members, don't stand alone."""
+    if "rollover" in setup.flags or setup.word("mode") == "rollover":
+        raise Fault(
+            f"{setup.path}: its group rolls over, so what a member is given depends on the rings of"
+            " the others, and no member can be run alone: leave rollover out"
+        )
+    if "defrag" in setup.flags:
+        raise Fault(
+            f"{setup.path}: with `flag defrag` a datagram may begin in one part of a capture and"
+            " end in another: leave the line out"
+        )
+
+
+class Progress:
+    """How much was read, on standard error where that is a terminal."""
+
+    EVERY = 1024  # frames
+
+    def __init__(self, streams: list[CpuStream]) -> None:
+        self.streams, self.begin, self.frames = streams, time.monotonic(), 0
+        self.whole = sum(stream.size for stream in streams)
+        self.shown = sys.stderr.isatty()
+
+    def step(self) -> None:
+        self.frames += 1
+        if self.shown and self.frames % self.EVERY == 0:
+            self.show("")
+
+    def show(self, end: str) -> None:
+        done = sum(stream.place() for stream in self.streams)
+        seconds = max(time.monotonic() - self.begin, 0.001)
+        told = f"{done / MEBIBYTE:,.0f} of {self.whole / MEBIBYTE:,.0f} MiB"
+        rate = f"{done / MEBIBYTE / seconds:,.1f} MiB/s"
+        print(f"\r{told}, {rate} ", end=end, file=sys.stderr, flush=True)
+
+    def finish(self) -> None:
+        if self.shown:
+            self.show("\n")
+
+
+def counts_words(counts: Counts) -> str:
+    return f"packets {counts[0]} drops {counts[1]} freezes {counts[2]}"
+
+
+def lines_of(run: LongRun) -> list[str]:
+    """The lines that `ringtap replay` would print."""
+    cpus, lines = [stream.count for stream in run.streams], []
+    for at, cpu in enumerate(cpus):
+        lines.append(f"cpu {at} frames {cpu.frames} arrivals {cpu.arrivals} end {cpu.end}")
+    drops = packets = 0
+    for at, member in enumerate(run.counts):
+        totals = member.totals()
+        packets, drops = packets + totals[0], drops + totals[1]
+        lines.append(f"member {at} {counts_words(totals)} blocks {member.blocks}")
+        lines += [f"count {at} {counts_words(one)}" for one in member.stretches]
+    arrivals = sum(cpu.arrivals for cpu in cpus)
+    kept = packets - drops
+    total = f"total arrivals {arrivals} filtered {arrivals - packets} kept {kept} drops {drops}"
+    return [*lines, total]
+
+
+def cuts_words(run: LongRun) -> str:
+    """How many pieces there were, and how each was begun."""
+    count = sum(run.ways.values())
+    found = [f"{number:,} {WAYS[way]}" for way, number in run.ways.items() if number]
+    again = f"; {run.again:,} were run again with two rings before them" if run.again else ""
+    return f"{count:,} {'piece' if count == 1 else 'pieces'} begun: {', '.join(found)}{again}"
+
+
+def object_of(run: LongRun) -> dict[str, object]:
+    """The same as one object."""
+    names = ("packets", "drops", "freezes")
+    cpus = [
+        {"frames": one.frames, "arrivals": one.arrivals, "end": one.end}
+        for one in (stream.count for stream in run.streams)
+    ]
+    members = [
+        dict(zip(names, one.totals()))
+        | {"blocks": one.blocks, "counts": [dict(zip(names, each)) for each in one.stretches]}
+        for one in run.counts
+    ]
+    totals = [one.totals() for one in run.counts]
+    arrivals, packets = sum(one["arrivals"] for one in cpus), sum(one[0] for one in totals)
+    drops = sum(one[1] for one in totals)
+    total = {"arrivals": arrivals, "filtered": arrivals - packets}
+    return {
+        "cpus": cpus,
+        "members": members,
+        "total": total | {"kept": packets - drops, "drops": drops},
+        "pieces": run.ways | {"again": run.again},
+    }
+
+
+def size(text: str) -> int:
+    if not (text.isascii() and text.isdigit() and LEAST_PIECE <= int(text) <= LARGEST_PIECE):
+        said = f"{text!r} isn't a number of bytes from {LEAST_PIECE} to {LARGEST_PIECE}"
+        raise argparse.ArgumentTypeError(said)
+    return int(text)
+
+
+def parser_of() -> ToolParser:
+    parser = ToolParser(__doc__, "demo/small.txt --pause 10")
+    parser.add_argument("setup", type=Path, metavar="SETUP", help="the setup")
+    parser.add_argument(
+        "--replay2", action="store_true", help="rings of TPACKET_V2: slots, and no timer"
+    )
+    parser.add_argument(
+        "--piece",
+        type=size,
+        default=LARGEST_PIECE,
+        metavar="N",
+        help=f"bytes of a piece, at most {LARGEST_PIECE}, which is the default",
+    )
+    add_pace(parser)
+    add_json(parser)
+    add_program(parser)
+    return parser
+
+
+def main(words: list[str]) -> int:
+    args = parser_of().parse_args(words)
+    setup, pace, program = read_setup(args.setup), pace_of(args), program_of(args.program)
+    refuse(setup)
+    with PieceRoom(setup, program) as room:
+        room.check()
+        run = LongRun(setup, room, pace, args)
+        run.make()
+    if args.json:
+        print_json(object_of(run))
+    else:
+        print("\n".join([*lines_of(run), "", cuts_words(run)]))
+    return 0

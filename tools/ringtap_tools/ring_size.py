@@ -1,0 +1,893 @@
+"""Names the least ring that never freezes over some captures, and how to ask tcpdump, dumpcap and
+Suricata for it.
+
+Give the captures of the CPUs, one each, or a setup. A grid of rings is tried: every block size,
+number of blocks, time-out, number of members and mode that is given with each of the others. It
+isn't known when a program starts its timer, so every whole millisecond of it is looked at, by the
+program ringsize where it is there, which looks at every beginning of the reader too, and else by a
+model of the tool's own; `ringtap replay` then judges where the ring has to be so large: there it
+never freezes, and one block less freezes. With --phases, with rollover and for slots `ringtap
+replay` itself is run at so many phases, the number of blocks being doubled and then halved to the
+least that loses nothing.
+
+The feeds have the captures' own times, or a rate. The memory is that of the blocks of all
+members together. The status is 0 where a ring suffices, 3 where none does, and 4 where the
+captures give no answer: no frame, all filtered, or only a part of them was read.
+"""
+from __future__ import annotations
+
+import argparse
+import csv
+import io
+import itertools
+import sys
+import tempfile
+from collections import Counter
+from dataclasses import dataclass, replace
+from fractions import Fraction
+from pathlib import Path
+from typing import Callable
+
+from .about import NO_ANSWER, NoAnswer, about_object, about_words, refuse_filtered, refuse_parts
+from .advice import Advice, advice_of, use_longer
+from .answers import Search, every_phase, few_phases, kernel_words, rolls_over
+from .captures import GZIP_MAGIC, LARGEST_CAPTURE, PCAP_UNITS, PCAPNG_MAGIC, CaptureWriter
+from .clock import Pace
+from .files import LARGEST_NAME, MODES, NANOSECONDS, CpuLine, Fault, Setup, read_setup
+from .filters import compiled
+from .notes import rollover_note
+from .outputs import check_folder, check_outputs, write_text
+from .readers import Readings
+from .refusals import KEY, unknown_mode
+from .ringsizes import Asker, Finder, ringsize_of
+from .runs import Room, add_program, program_of, table
+from .schedule import Fed, add_pace, feeds, pace_of
+from .search import FEW_PHASES, Model
+from .svg_plot import (
+    Layer,
+    Panel,
+    Series,
+    bars_chart,
+    check_picture,
+    kib,
+    points_chart,
+    save_picture,
+)
+from .trials import (
+    LEAST_BLOCKS,
+    MOST_BLOCKS,
+    RESERVED,
+    ROLLOVER,
+    Result,
+    Ring,
+    Trials,
+    answers_by_mode,
+    changes_of,
+    evenness,
+    least_of,
+    lines_of,
+    members_of,
+)
+from .words import ToolParser, add_json, print_json
+
+PAGE = 4096
+LARGEST_BLOCK = 1_048_576
+MOST_MEMBERS, MOST_CPUS, MOST_PHASES = 8, 8, 1000
+MOST_TIMEOUT = 60_000  # milliseconds
+NONE_SUFFICES = 3  # the status
+KEYS, MOST_KEYS, MOST_LOOPS = 16, 256, 10_000
+RESERVED_MARK = "PACKET_RESERVE 4"  # in a setup that ring_of.py wrote of a program of libpcap
+KEPT_COLOR, DROPPED_COLOR = "#0072b2", "#d55e00"
+# What is taken for captures alone: the ring that tcpdump asks for, and a reader that comes ten
+# times a second.
+TCPDUMP_BLOCK, TCPDUMP_TIMEOUT = 262_144, 1000
+V2_BLOCK, FRAME_SIZE, PAUSE = 65_536, 2048, Fraction(100)
+
+
+def numbers(least: int, most: int, step: int = 1) -> Callable[[str], list[int]]:
+    """Reads numbers between commas; K and M after one count 1,024 and 1,048,576."""
+
+    def read(text: str) -> list[int]:
+        read_ones = []
+        for word in text.split(","):
+            unit = {"K": 1024, "M": 1024 * 1024}.get(word[-1:].upper(), 1)
+            digits = word if unit == 1 else word[:-1]
+            number = (
+                int(digits) * unit
+                if digits.isascii() and digits.isdigit() and len(digits) <= 10
+                else -1
+            )
+            if not least <= number <= most or number % step:
+                multiple = f", a multiple of {step}" if step > 1 else ""
+                raise argparse.ArgumentTypeError(
+                    f"{word!r} isn't right: numbers between commas, each from {least} to"
+                    f" {most}{multiple}"
+                )
+            read_ones.append(number)
+        return list(dict.fromkeys(read_ones))
+
+    return read
+
+
+def modes(text: str) -> list[str]:
+    allowed = [*MODES, *(mode + ROLLOVER for mode in MODES if mode != "rollover")]
+    for word in text.split(","):
+        if word not in allowed:
+            more = f", and hash{ROLLOVER} for one with the flag"
+            raise argparse.ArgumentTypeError(f"{word!r}: {unknown_mode(word)}{more}")
+    return list(dict.fromkeys(text.split(",")))
+
+
+def is_capture(path: Path) -> bool:
+    """Whether a file begins as a capture does, or at least not as a text."""
+    try:
+        with open(path, "rb") as file:
+            # a pipe can be read once, so it is taken for a capture
+            head = file.peek(4)[:64] if file.seekable() else PCAPNG_MAGIC
+    except OSError as error:
+        raise Fault(f"{path}: can't be read: {error.strerror}") from None
+    magics = [magic.to_bytes(4, order) for magic in PCAP_UNITS for order in ("little", "big")]
+    return head.startswith((PCAPNG_MAGIC, GZIP_MAGIC, *magics)) or any(byte < 9 for byte in head)
+
+
+def setup_of(paths: list[Path], is_v2: bool) -> Setup:
+    """The setup that is named, or one for captures."""
+    found = [is_capture(path) for path in paths]
+    if not any(found):
+        if len(paths) > 1:
+            raise Fault(f"{paths[1]}: isn't a capture; one setup is taken, or captures")
+        return read_setup(paths[0])
+    if not all(found):
+        raise Fault(
+            f"{paths[found.index(False)]}: isn't a capture; one setup is taken, or captures"
+        )
+    if len(paths) > MOST_CPUS:
+        raise Fault(f"{len(paths)} captures, and ringtap has at most {MOST_CPUS} CPUs")
+    block = V2_BLOCK if is_v2 else TCPDUMP_BLOCK
+    lines = [
+        f"block_size {block}",
+        f"block_nr {LEAST_BLOCKS}",
+        f"frame_size {FRAME_SIZE}",
+        f"frame_nr {block // FRAME_SIZE * LEAST_BLOCKS}",
+    ]
+    # names, which may have blanks, come in when it is used
+    lines += [f"tov {TCPDUMP_TIMEOUT}"] * (not is_v2) + [f"cpu {cpu}" for cpu in range(len(paths))]
+    setup = Setup(
+        paths[0],
+        lines,
+        {word: [value] for word, value in (line.split(" ", 1) for line in lines) if word != "cpu"},
+    )
+    setup.cpus = [CpuLine(str(path), cpu, 0) for cpu, path in enumerate(paths)]
+    return setup
+
+
+def is_made(setup: Setup) -> bool:
+    """Whether a setup was made here, for captures."""
+    return bool(setup.cpus) and setup.cpus[0].line == 0
+
+
+def grid_of(setup: Setup, args: argparse.Namespace) -> list[Ring]:
+    """The rings to be tried, without those that are larger than ringtap has them."""
+    sizes = args.block_size or [setup.number("block_size")]
+    counts = args.block_nr or [LEAST_BLOCKS]
+    timeouts = args.tov or [setup.number("tov", 0)]
+    members = args.members or [setup.number("members", 1)]
+    flag = ROLLOVER if "rollover" in setup.flags else ""
+    chosen = args.mode or [f"{setup.word('mode', 'cpu')}{flag}"]
+    if any(mode.startswith("hash") for mode in chosen) and "key" not in setup.values:
+        chosen_key(setup)
+    frame_size = setup.number("frame_size")
+    rings = [
+        Ring(mode, member, timeout, size, count, max(1, min(frame_size, size)), args.replay2)
+        for mode, member, timeout, size, count in itertools.product(
+            chosen, members, timeouts, sizes, counts
+        )
+    ]
+    grid = [ring for ring in rings if ring.fits]
+    if not grid:
+        raise Fault(
+            "no ring to try: all have more than 64 MiB, or more than 65,536 slots, the most that"
+            " ringtap has"
+        )
+    return grid
+
+
+def chosen_key(setup: Setup) -> None:
+    """Gives the usual key of receive side scaling to a setup that was made here; another has to
+    have its own."""
+    if not is_made(setup):
+        raise Fault(f'{setup.path}: has no line "key", and mode hash needs one, as "key {KEY}"')
+    setup.lines.append(f"key {KEY}")
+    setup.values["key"] = [KEY]
+
+
+def reader_words(pace: Pace, unit: str) -> str:
+    """What the readers do, in words."""
+    if pace.poll is not None:
+        delay = f" {float(pace.poll):g} ms after" if pace.poll else " when"
+        one = "slot" if unit == "slots" else "block"
+        words = f"each reader wakes{delay} a {one} is handed over, then takes all that is there"
+    elif pace.blocks:
+        words = f"each reader takes {float(pace.blocks):g} {unit} a second"
+    elif pace.bytes:
+        words = f"each reader takes {unit} of {float(pace.bytes):g} bytes in all a second"
+    elif pace.pause:
+        words = f"each reader sleeps {float(pace.pause):g} ms, then takes all that is there"
+    else:
+        return "nobody reads before all frames are fed"
+    stalls = " and ".join(
+        f"{float(start):g} ms on for {float(length):g} ms" for start, length in pace.stalls
+    )
+    return words + (f", but not from {stalls}" if stalls else "")
+
+
+def opening(setup: Setup, args: argparse.Namespace, pace: Pace, is_default: bool) -> str:
+    """The first line: what the answer rests on, and what of it was asked by nobody."""
+    words = reader_words(pace, "slots" if args.replay2 else "blocks")
+    if not is_made(setup):
+        return words
+    parts = [f"frame_size {FRAME_SIZE}"]
+    parts += [f"tov {TCPDUMP_TIMEOUT}"] * (not args.replay2 and not args.tov)
+    parts += [f"block_size {setup.number('block_size')}"] * (not args.block_size)
+    parts += ["the usual key"] * ("key" in setup.values)
+    if is_default:
+        return f"by default: {', '.join([*parts, words])}"
+    return f"by default: {', '.join(parts)}; as asked: {words}"
+
+
+HEADS = [
+    "mode",
+    "members",
+    "tov",
+    "block_size",
+    "block_nr",
+    "memory",
+    "phase",
+    "kept",
+    "drops",
+    "freezes",
+    "blocks",
+    "fewest",
+]
+
+
+def row_of(result: Result) -> list[object]:
+    """The run at the worst phase, and the fewest drops of any."""
+    ring, report = result.ring, result.worst
+    return [
+        ring.mode,
+        ring.members,
+        ring.timeout,
+        ring.block_size,
+        ring.block_nr,
+        ring.memory,
+        result.worst_phase,
+        report.kept,
+        report.drops,
+        report.freezes,
+        report.blocks,
+        result.fewest,
+    ]
+
+
+def phases_words(result: Result) -> str:
+    if result.drops_by_phase:
+        return ", at every whole millisecond of the timer"
+    count = len(result.phases)
+    return "" if count == 1 else f" at each of {count} phases of the timer"
+
+
+def lost_words(result: Result) -> str:
+    """What a ring loses, from its best phase to its worst."""
+    lost = (
+        f"{result.fewest:,} to {result.drops:,}"
+        if result.fewest != result.drops
+        else f"{result.drops:,}"
+    )
+    packets = f"{lost} of {result.worst.kept + result.drops:,} packets"
+    if result.drops_by_phase:
+        return f"{result.ring.block_nr} blocks freeze, and lose {packets}, by the phase"
+    return f"with {result.ring.block_nr} blocks {packets} are lost"
+
+
+def verdict_of(results: list[Result], least: Result | None) -> list[str]:
+    """The least ring that suffices, in words, and the largest of its line that doesn't."""
+    if least is None:
+        best = min(results, key=lambda result: (result.drops, result.ring.memory))
+        return [
+            "every ring that was tried loses packets: no ring suffices",
+            (
+                f"the smallest loss: {best.drops:,} of {best.worst.kept + best.drops:,}, by"
+                f" {best.ring.words()}"
+            ),
+        ]
+    line = next(line for line in lines_of(results) if least in line)
+    smaller = [result for result in line if result.ring.block_nr < least.ring.block_nr]
+    what = (
+        "least ring"
+        if smaller or least.ring.block_nr == LEAST_BLOCKS
+        else "least ring of those tried"
+    )
+    does = "never freezes" if least.drops_by_phase else "loses nothing"
+    said = [
+        f"the {what} that {does}{phases_words(least)}: {least.ring.words()};"
+        f" {kib(least.ring.memory)} in all"
+    ]
+    return said + ([lost_words(smaller[-1])] if smaller else [])
+
+
+MEMBER_HEADS = ["mode", "members", "member", "kept", "drops", "bytes kept"]
+
+
+def member_rows(trials: Trials, results: list[Result]) -> list[list[object]]:
+    """What each member kept and dropped, at the answer's ring of each mode."""
+    rows = []
+    for result in answers_by_mode(results):
+        kept = trials.kept_bytes(result)
+        for at, member in enumerate(members_of(result)):
+            rows.append(
+                [result.ring.mode, result.ring.members, at, member.kept, member.drops, kept[at]]
+            )
+    return rows
+
+
+def evenness_rows(rows: list[list[object]]) -> list[list[object]]:
+    """The largest member to the mean one, of each mode and number of members: packets, kept or
+    dropped, and bytes kept."""
+    found = []
+    for (mode, members), group in itertools.groupby(rows, key=lambda row: (row[0], row[1])):
+        mine = list(group)
+        packets, kept = evenness([row[3] + row[4] for row in mine]), evenness(
+            [row[5] for row in mine]
+        )
+        found.append([mode, members, f"{packets:.2f}", f"{kept:.2f}"])
+    return found
+
+
+# of a line's name, before its block size
+PARTS = {"mode": "{}", "members": "{} members", "timeout": "tov {}"}
+
+
+def part_words(ring: Ring, names: list[str]) -> list[str]:
+    words = [PARTS[name].format(getattr(ring, name)) for name in names]
+    return ["1 member" if word == "1 members" else word for word in words]
+
+
+def panel_parts(rings: list[Ring]) -> list[str]:
+    """What tells the panels of a picture apart: as little as leaves none more lines than there
+    are colors, where that can be had."""
+    names = list(PARTS)
+    for count in range(len(names)):
+        sizes = Counter(tuple(part_words(ring, names[:count])) for ring in rings)
+        if max(sizes.values()) <= Panel.MOST_SERIES:
+            return names[:count]
+    return names
+
+
+def series_name(ring: Ring, rings: list[Ring], named: list[str]) -> str:
+    """What tells a line from the others of its panel; the number of blocks goes along the line."""
+    differing = [
+        name
+        for name in PARTS
+        if name not in named and len({getattr(other, name) for other in rings}) > 1
+    ]
+    parts = part_words(ring, differing)
+    if len({other.block_size for other in rings}) > 1 or not parts:
+        parts.append(f"{kib(ring.block_size)} blocks")
+    return ", ".join(parts)
+
+
+def drops_picture(results: list[Result], least: Result | None, title: str) -> str:
+    """Drops at the worst phase against memory: several panels, one for each mode, where one
+    would have too many lines."""
+    lines = lines_of(results)
+    rings = [line[0].ring for line in lines]
+    named = panel_parts(rings)
+    panels: list[Panel] = []
+    for line in lines:
+        name = ", ".join(part_words(line[0].ring, named))
+        if not panels or panels[-1].name != name or len(panels[-1].series) == Panel.MOST_SERIES:
+            panels.append(Panel(name))
+        points = []
+        for result in line:
+            told = (
+                f"{result.ring.words()}: {result.drops:,} dropped of"
+                f" {result.worst.kept + result.drops:,}"
+            )
+            points.append((result.ring.memory, result.drops, told))
+        panels[-1].series.append(Series(series_name(line[0].ring, rings, named), points))
+        if least and least in line:
+            panels[-1].mark = (least.ring.memory, 0, f"least: {kib(least.ring.memory)}")
+    return points_chart(
+        "Packets dropped, by the memory of the ring",
+        title,
+        "memory of all members' blocks, KiB",
+        "packets dropped",
+        panels,
+    )
+
+
+def packets_picture(rows: list[list[object]], title: str) -> str:
+    names = [str(row[2]) for row in rows]
+    groups = [f"{row[0]}, {row[1]}" for row in rows]
+    layers = [Layer("kept", [row[3] for row in rows]), Layer("dropped", [row[4] for row in rows])]
+    return bars_chart(
+        "Packets for each member, at the least ring of each mode that suffices",
+        "member, by mode and number of members",
+        "packets",
+        names,
+        layers,
+        [KEPT_COLOR, DROPPED_COLOR],
+        groups,
+        title,
+    )
+
+
+def table_text(results: list[Result]) -> str:
+    """The table with a row for each ring, and below it one for each of its members."""
+    made = io.StringIO()
+    writer = csv.writer(made, lineterminator="\n")
+    writer.writerow([*HEADS[:7], "member", *HEADS[7:]])
+    for result in results:
+        row = row_of(result)
+        writer.writerow([*row[:7], "all", *row[7:]])
+        if result.ring.members > 1:
+            for at, member in enumerate(members_of(result)):
+                writer.writerow(
+                    [*row[:7], at, member.kept, member.drops, member.freezes, member.blocks, ""]
+                )
+    return made.getvalue()
+
+
+def picture_names(args: argparse.Namespace) -> list[Path]:
+    """What is saved with the pictures."""
+    kind = "png" if args.png else "svg"
+    return (
+        [args.pictures / name for name in ("table.csv", f"drops.{kind}", f"packets.{kind}")]
+        if args.pictures
+        else []
+    )
+
+
+def save_all(
+    args: argparse.Namespace, results: list[Result], rows: list[list[object]], title: str
+) -> None:
+    """Saves the pictures, and the table that they are drawn from."""
+    try:
+        args.pictures.mkdir(parents=True, exist_ok=True)
+    except OSError as error:
+        raise Fault(f"{args.pictures}: can't be made: {error.strerror}") from None
+    table_name, drops, packets = picture_names(args)
+    write_text(table_name, table_text(results))
+    save_picture(drops, drops_picture(results, least_of(results), title))
+    save_picture(packets, packets_picture(rows, title))
+
+
+def parser_of() -> argparse.ArgumentParser:
+    parser = ToolParser(__doc__, "demo/lo.pcap --pictures made")
+    parser.add_argument(
+        "inputs",
+        type=Path,
+        nargs="+",
+        metavar="SETUP|CAPTURE",
+        help="a setup, or the capture of each CPU (pcap, pcapng, gzip)",
+    )
+    grid = parser.add_argument_group("grid", "numbers stand between commas, as 4K,64K,1M")
+    grid.add_argument(
+        "--block-size",
+        type=numbers(PAGE, LARGEST_BLOCK, PAGE),
+        metavar="N,..",
+        help="bytes of a block",
+    )
+    grid.add_argument(
+        "--block-nr",
+        type=numbers(LEAST_BLOCKS, MOST_BLOCKS),
+        metavar="N,..",
+        help="blocks (2, 4, 8 and so on until nothing is lost)",
+    )
+    grid.add_argument("--tov", type=numbers(0, MOST_TIMEOUT), metavar="MS,..", help="time-outs")
+    grid.add_argument(
+        "--members", type=numbers(1, MOST_MEMBERS), metavar="M,..", help="members of the group"
+    )
+    grid.add_argument(
+        "--mode",
+        type=modes,
+        metavar="MODE,..",
+        help=f"of {', '.join(MODES)}; hash{ROLLOVER} is hash with `flag rollover`",
+    )
+    grid.add_argument(
+        "--replay2",
+        action="store_true",
+        help="rings of TPACKET_V2: slots of frame_size bytes, and no timer",
+    )
+    add_pace(parser, has_phase=False)
+    parser.add_argument(
+        "--loop",
+        type=int,
+        default=1,
+        metavar="N",
+        help="the captures come N times, one after another (1)",
+    )
+    parser.add_argument(
+        "--phases",
+        type=int,
+        metavar="N",
+        help=(
+            "run the program at N phases of the timer, evenly over a time-out (all, by a model;"
+            f" with rollover {FEW_PHASES})"
+        ),
+    )
+    parser.add_argument(
+        "--keys",
+        type=int,
+        default=KEYS,
+        metavar="N",
+        help=(
+            f"for mode hash so many other keys beside the setup's ({KEYS}), since a kernel's is"
+            " secret"
+        ),
+    )
+    parser.add_argument(
+        "--lost",
+        type=int,
+        metavar="N",
+        help=(
+            "which readers explain that the setup's ring lost N packets, and which ring suffices"
+            " for them"
+        ),
+    )
+    parser.add_argument(
+        "--filter",
+        metavar="EXPR",
+        help=(
+            "a filter, which `tcpdump -y EN10MB -ddd` compiles; with -o FILE it goes into FILE.ddd"
+        ),
+    )
+    parser.add_argument(
+        "--libpcap",
+        action="store_true",
+        help="the program reserves 4 bytes more of each packet, as all of libpcap's do",
+    )
+    parser.add_argument(
+        "-o",
+        "--output",
+        type=Path,
+        metavar="FILE",
+        help="saves a setup with the least ring that suffices",
+    )
+    parser.add_argument(
+        "--pictures",
+        type=Path,
+        metavar="FOLDER",
+        help="draws drops.svg and packets.svg there, beside table.csv",
+    )
+    parser.add_argument(
+        "--png", action="store_true", help="draws PNG in place of SVG, where rsvg-convert is there"
+    )
+    parser.add_argument("--jobs", type=int, default=1, metavar="N", help="makes N runs at once (1)")
+    add_json(parser)
+    add_program(parser)
+    return parser
+
+
+def check_words(args: argparse.Namespace, setup: Setup, pace: Pace) -> None:
+    """What options alone, or with the setup, show to be wrong, before anything is run."""
+    if args.png and not args.pictures:
+        raise Fault("--png: says how pictures are drawn, and --pictures where")
+    if args.phases is not None and not 1 <= args.phases <= MOST_PHASES:
+        raise Fault(f"--phases: a number from 1 to {MOST_PHASES}")
+    if args.jobs < 1:
+        raise Fault("--jobs: a number from 1 on")
+    if not 0 <= args.keys <= MOST_KEYS:
+        raise Fault(f"--keys: a number from 0 to {MOST_KEYS}")
+    if not 1 <= args.loop <= MOST_LOOPS:
+        raise Fault(f"--loop: a number from 1 to {MOST_LOOPS:,}")
+    if args.lost is not None and (args.lost < 1 or args.replay2 or is_made(setup)):
+        raise Fault(
+            "--lost: a number from 1 on, of the ring of blocks that a setup has, so give a setup"
+        )
+    if pace.stalls and not pace.has_reader:
+        raise Fault(
+            "--stall: says when no reader reads, and nobody reads at all: --blocks, --bytes,"
+            " --pause or --poll gives a reader"
+        )
+    if args.replay2 and args.tov:
+        raise Fault("--tov: a ring of TPACKET_V2 has no time-out")
+    if args.output and is_made(setup):
+        for cpu in setup.cpus:
+            check_name(cpu.name)
+    names = picture_names(args)
+    if args.pictures:
+        check_folder(args.pictures)
+        for name in names[1:]:
+            check_picture(name)
+    beside = [filter_path(args.output)] if args.output and args.filter is not None else []
+    check_outputs(
+        [args.output, *beside, *(name for name in names if args.pictures.is_dir())],
+        args.inputs,
+        setup,
+    )
+
+
+def check_name(name: str) -> None:
+    """Whether a capture can be named in a setup that ringtap takes."""
+    if not (
+        name.isascii() and name.isprintable() and " " not in name and len(name) <= LARGEST_NAME
+    ):
+        raise Fault(
+            f"-o: the name {name} can't be in a setup: ASCII without blanks, of at most"
+            f" {LARGEST_NAME} bytes"
+        )
+    with open(name, "rb") as file:
+        if file.read(len(GZIP_MAGIC)) == GZIP_MAGIC:
+            raise Fault(
+                f"-o: {name} is gzip, which ringtap doesn't read: `gzip -dk {name}` unpacks it"
+            )
+
+
+def pace_for(args: argparse.Namespace, setup: Setup) -> tuple[Pace, bool]:
+    """The pace, and whether its reader is the one that captures have by default."""
+    has_reader = args.blocks or args.bytes or args.pause or args.poll is not None
+    is_default = is_made(setup) and not has_reader
+    if is_default:
+        args.pause = PAUSE
+    return pace_of(args), is_default
+
+
+def title_of(setup: Setup, fed: Fed, words: str) -> str:
+    """What a picture is of: the captures and the reader."""
+    names = [path.name for path in setup.capture_paths()]
+    shown = ", ".join(names[:2]) + (f" and {len(names) - 2} more" if len(names) > 2 else "")
+    return f"{shown}: {len(fed.times):,} frames in {fed.end / NANOSECONDS:.3f} s; {words}"
+
+
+@dataclass
+class Answer:
+    """What was found."""
+
+    results: list[Result]
+    least: Result | None
+    rows: list[list[object]]  # what each member kept and dropped
+    advice: list[Advice]
+    fed: Fed
+    filtered: int
+    judgement: list[str]  # what the program said of the answer and of its neighbour
+    keys: list[str]
+    kernel: list[str]  # losses as a kernel rolls over, by the tool's own model
+
+
+def print_words(first: str, answer: Answer) -> None:
+    results = answer.results
+    print(f"{first}\n")
+    print(table(HEADS, [row_of(result) for result in results]))
+    print()
+    said = [*answer.judgement, *answer.keys, *answer.kernel]
+    print("\n".join([*verdict_of(results, answer.least), *said]))
+    if (
+        len({(one.ring.mode, one.ring.members) for one in results}) > 1
+        or results[0].ring.members > 1
+    ):
+        print("\nat the least ring of each mode that suffices, or else its largest:\n")
+        print(table(MEMBER_HEADS, answer.rows))
+        print("\nthe largest member to the mean one:\n")
+        print(table(["mode", "members", "packets", "bytes kept"], evenness_rows(answer.rows)))
+    if answer.advice:
+        print()
+        print("\n".join(line for one in answer.advice for line in one.words()))
+        if (
+            all(one.program == "suricata" for one in answer.advice)
+            and answer.least.ring.members == 1
+        ):
+            asked = f"--block-size 256K --tov {TCPDUMP_TIMEOUT}"
+            print(f"for tcpdump and dumpcap, whose blocks have 262144 bytes: {asked}")
+    print(f"\n{about_words(answer.fed.about, answer.filtered)}")
+
+
+def reader_object(pace: Pace) -> dict[str, object]:
+    """The reader in numbers."""
+    numbers = {"blocks": pace.blocks, "bytes": pace.bytes, "pause": pace.pause, "poll": pace.poll}
+    stalls = [[float(start), float(length)] for start, length in pace.stalls]
+    shown = {name: float(value) for name, value in numbers.items() if value is not None}
+    return shown | {"stalls": stalls}
+
+
+def object_of(pace: Pace, answer: Answer) -> dict[str, object]:
+    """The same as one object."""
+    least, rings = answer.least, []
+    for result in answer.results:
+        drops = list(result.drops_by_phase) or [report.drops for report in result.reports]
+        more = {"drops_by_phase": drops, "key": result.key, "from": result.begin}
+        rings.append(dict(zip(HEADS, row_of(result))) | more)
+    names = [head.replace(" ", "_") for head in MEMBER_HEADS]
+    made: dict[str, object] = {
+        "reader": reader_object(pace),
+        "about": about_object(answer.fed.about, answer.filtered),
+        "rings": rings,
+        "least": dict(zip(HEADS, row_of(least))) if least else None,
+        "is_every_millisecond": bool(least and least.drops_by_phase),
+        "members": [dict(zip(names, row)) for row in answer.rows],
+        "evenness": [
+            {"mode": row[0], "members": row[1], "packets": float(row[2]), "bytes": float(row[3])}
+            for row in evenness_rows(answer.rows)
+        ],
+    }
+    return made | {one.program: one.object() for one in answer.advice}
+
+
+def save_setup(path: Path, setup: Setup, least: Result, instructions: str | None) -> None:
+    changes = changes_of(least.ring, "rollover" in setup.flags)
+    if instructions:
+        write_text(filter_path(path), instructions)
+        changes["filter"] = str(filter_path(path))
+    write_text(path, setup.with_changes(changes, [cpu.name for cpu in setup.cpus]))
+
+
+def filter_path(output: Path) -> Path:
+    return output.with_name(f"{output.name}.ddd")
+
+
+def take_filter(setup: Setup, instructions: str, folder: str) -> None:
+    """Gives a filter to a setup that has none."""
+    if "filter" in setup.values:
+        raise Fault(
+            f"{setup.path}, line {setup.places['filter']}: has a filter already, and --filter gives"
+            " another"
+        )
+    path = Path(folder) / "filter.ddd"
+    write_text(path, instructions)
+    setup.lines.append(f"filter {path}")
+    setup.values["filter"], setup.places["filter"] = [str(path)], len(setup.lines)
+
+
+# ---- the search
+
+
+def repeat(room: Room, count: int) -> None:
+    """Makes the captures come several times, each time right after the last frame."""
+    names = []
+    for cpu, stream in enumerate(room.streams()):
+        name, frames = f"looped{cpu}.pcap", list(stream)
+        start = frames[0].time if frames else 0
+        length = max((frame.time for frame in frames), default=start) - start
+        with open(room.folder / name, "wb") as file:
+            writer = CaptureWriter(file)
+            for turn in range(count):
+                for frame in frames:
+                    writer.write(frame._replace(time=frame.time + turn * length))
+                if file.tell() > LARGEST_CAPTURE:
+                    size = "more than the 32 MiB that ringtap reads"
+                    raise Fault(f"--loop: {turn + 1} times {stream.path} is {size}")
+        names.append(name)
+    room.captures = names
+
+
+def looks_at_all(args: argparse.Namespace, grid: list[Ring], model: Model) -> bool:
+    """Whether every whole millisecond is looked at: not for slots, nor with rollover."""
+    if args.phases is not None or args.replay2 or any(map(rolls_over, grid)):
+        return False
+    return model.timer(grid[0], 0).every > 0
+
+
+def found(
+    room: Room, args: argparse.Namespace, pace: Pace, setup: Setup, grid: list[Ring]
+) -> Answer:
+    """Everything that is worked out."""
+    if args.loop > 1:
+        repeat(room, args.loop)
+    fed = feeds(room.streams(), pace)
+    refuse_parts(fed.about)
+    timed = list(room.captures)  # before the model puts numbers into their times
+    is_reserved = args.libpcap or any(RESERVED_MARK in line for line in setup.lines)
+    model = Model(room, fed, pace, RESERVED * is_reserved)
+    trials = Trials(room, fed, pace, args.phases or FEW_PHASES, args.jobs)
+    if is_reserved and not use_longer(trials):
+        raise Fault(
+            f"{setup.path}: with libpcap's bytes its captures are more than the 32 MiB that ringtap"
+            " reads"
+        )
+    trials.reserved = RESERVED * is_reserved
+    trials.reads = model.reads if pace.poll is not None else None
+    ringsize = ringsize_of(room.program)
+    finder = Finder(Asker(ringsize, room, timed, trials.has_flag) if ringsize else None)
+    search = Search(trials, model, args.keys, finder)
+    is_open = not args.block_nr
+    if looks_at_all(args, grid, model):
+        results, least = every_phase(search, grid, is_open)
+        said, filtered = search.judgement, search.filtered
+    else:
+        is_sure = args.phases is None
+        results, least, said = few_phases(trials, grid, is_open, args.keys * is_sure, is_sure)
+        filtered = results[0].worst.filtered
+        refuse_filtered(fed.about, results[0].worst.arrivals, filtered)
+    kernel, rows, asked = kernel_words(model, results), member_rows(trials, results), []
+    if least and not args.replay2:
+        asked = advice_of(finder, trials, model, least.ring, is_reserved)
+    return Answer(results, least, rows, asked, fed, filtered, said, search.key_words, kernel)
+
+
+def explained(
+    room: Room, args: argparse.Namespace, pace: Pace, setup: Setup, grid: list[Ring]
+) -> int:
+    """Prints the readers that explain a counter; the program runs an example of each."""
+    ring = replace(grid[0], block_nr=setup.number("block_nr"))
+    if rolls_over(ring):
+        raise Fault("--lost: not for a group that rolls over, whose members don't stand alone")
+    if not pace.has_reader:
+        pace = replace(pace, pause=PAUSE)
+    fed = feeds(room.streams(), pace)
+    refuse_parts(fed.about)
+    model = Model(room, fed, pace)
+    readings = Readings(model, ring, args.lost, args.phases or FEW_PHASES)
+    found, said = readings.all(), []
+    for one in found:
+        told = one.words(ring)
+        if one.example:
+            trials = Trials(room, fed, one.example[0], 1, 1)
+            trials.reads = model.reads if one.example[0].poll is not None else None
+            drops = trials.run(ring, one.example[1]).drops
+            told += f"; `ringtap replay` drops {drops:,} by one of these, at phase {one.example[1]}"
+            if drops != args.lost:
+                raise Fault(f"{told}, and the tool's own model {args.lost:,}")
+        said.append(told)
+    if args.json:
+        print_json(
+            {
+                "lost": args.lost,
+                "ring": ring.block_nr,
+                "phases": len(readings.few),
+                "readings": [one.object() for one in found],
+                "blocks": max((one.blocks for one in found), default=None),
+            }
+        )
+    else:
+        print(
+            f"{args.lost:,} packets lost by {ring.words()} are explained, by the tool's own"
+            " model, by"
+        )
+        print("\n".join(said or ["no phase, stop or speed of a reader that was tried"]))
+        if found:
+            print(
+                "the largest ring that any of these needs:"
+                f" {max(one.blocks for one in found)} blocks of {ring.block_size} bytes"
+            )
+        print(readings.tried())
+        print(f"\n{about_words(fed.about, 0)}")
+    return 0 if found else NONE_SUFFICES
+
+
+def main(words: list[str]) -> int:
+    args = parser_of().parse_args(words)
+    program, setup = program_of(args.program), setup_of(args.inputs, args.replay2)
+    pace, is_default = pace_for(args, setup)
+    check_words(args, setup, pace)
+    grid = grid_of(setup, args)
+    instructions = compiled(args.filter) if args.filter is not None else None
+    for note in rollover_note(setup, [ring.mode for ring in grid if ring.members > 1]):
+        print(note, file=sys.stderr)
+    try:
+        with tempfile.TemporaryDirectory(prefix="ringtap-") as folder:
+            if instructions:
+                take_filter(setup, instructions, folder)
+            with Room(setup, program) as room:
+                if args.lost is not None:
+                    return explained(room, args, pace, setup, grid)
+                answer = found(room, args, pace, setup, grid)
+    except NoAnswer as fault:
+        print(f"{Path(sys.argv[0]).name}: {fault}", file=sys.stderr)
+        return NO_ANSWER
+    least = answer.least
+    if args.json:
+        print_json(object_of(pace, answer))
+    else:
+        print_words(opening(setup, args, pace, is_default), answer)
+    if args.pictures:
+        unit = "slots" if args.replay2 else "blocks"
+        save_all(
+            args, answer.results, answer.rows, title_of(setup, answer.fed, reader_words(pace, unit))
+        )
+    if args.output and least:
+        save_setup(args.output, setup, least, instructions)
+    made = [*picture_names(args), *([args.output] if args.output and least else [])]
+    if made and not args.json:
+        print(f"\nsaved: {', '.join(map(str, made))}")
+    return 0 if least else NONE_SUFFICES
