@@ -9,7 +9,7 @@ from measurements import COMMANDS, Asked, Times, Words, faults_of, measure
 
 sys.path.append(str(Path(__file__).resolve().parent.parent / "tools"))
 
-from ringtap_memory import KEPT_HEAP, LARGE_PAGES, TOLD  # noqa: E402
+from ringtap_tools.memory import KEPT_HEAP, LARGE_PAGES, TOLD  # noqa: E402
 
 SETTINGS: dict[str, Words] = {
     "as it is": [], "large pages": [LARGE_PAGES], "kept heap": [KEPT_HEAP],

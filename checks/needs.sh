@@ -36,7 +36,10 @@ valgrind            valgrind              instructions in the benchmark
 is_there() {
     case $1 in
     /*) [ -e "$1" ] ;;
-    python3:*) python3 -c "import ${1#*:}" 2>/dev/null || /usr/bin/python3 -c "import ${1#*:}" 2>/dev/null ;;
+    python3:*)
+        python3 -c "import ${1#*:}" 2>/dev/null ||
+            /usr/bin/python3 -c "import ${1#*:}" 2>/dev/null
+        ;;
     *) command -v "$1" >/dev/null ;;
     esac
 }
@@ -63,7 +66,10 @@ install() {
             return
         fi
     fi
-    front+=(env DEBIAN_FRONTEND=noninteractive apt-get -qq -o Acquire::Retries=1 -o Acquire::http::Timeout=20)
+    front+=(
+        env DEBIAN_FRONTEND=noninteractive
+        apt-get -qq -o Acquire::Retries=1 -o Acquire::http::Timeout=20
+    )
     "${front[@]}" update >/dev/null 2>&1 || true
     if ! "${front[@]}" install -y --no-install-recommends "$@" >/dev/null 2>&1; then
         # One package that the registry lacks keeps none of the others.

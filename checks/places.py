@@ -9,6 +9,8 @@ from pathlib import Path
 TOP = Path(__file__).resolve().parent.parent
 OUT = TOP / "crates" / "ringtap" / "out"
 UNBUILT = Path("unbuilt")
+# the other program, which the tools ask where it is beside ringtap
+RINGSIZE = TOP / "crates" / "ringsize" / "out" / "ringsize"
 sys.path.append(str(TOP / "tools"))
 
 

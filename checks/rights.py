@@ -49,11 +49,13 @@ def other_user() -> bool:
 
 
 def network_namespace() -> bool:
-    """Whether root can make one with a name."""
+    """Whether root can make one with a name, and go into it, which a root that is no mount's
+    forbids."""
     name = f"ringtap-check-{os.getpid()}"
     if os.getuid() != 0 or not works(["ip", "netns", "add", name]):
         return False
-    return works(["ip", "netns", "delete", name])
+    is_open = works(["ip", "-n", name, "link", "show"])
+    return works(["ip", "netns", "delete", name]) and is_open
 
 
 def chroot() -> bool:

@@ -1,8 +1,9 @@
 #!/usr/bin/env bash
-# bash checks/run.sh [WORDS ..]: runs the checks, with words for pytest, as `-k lost` or a file of checks/.
+# bash checks/run.sh [WORDS ..]: runs the checks, with words for pytest, as `-k lost` or a file of
+# checks/.
 #
-# The interpreter is python3 where it has pytest, or else Debian's, /usr/bin/python3. Where neither has it, each part of the checks
-# is said to be skipped. A program that isn't there is built.
+# The interpreter is python3 where it has pytest, or else Debian's, /usr/bin/python3. Where neither
+# has it, each part of the checks is said to be skipped. A program that isn't there is built.
 set -u
 cd "$(dirname "${BASH_SOURCE[0]}")/.." || exit 2
 interpreter=
@@ -18,8 +19,9 @@ if [ -z "$interpreter" ]; then
     echo "checks: 0 passed, 0 failed, all skipped"
     exit 0
 fi
-echo "the checks run by $("$interpreter" -c 'import sys; print(sys.executable, sys.version.split()[0])')"
-if [ -z "${RINGTAP:-}" ] && [ ! -x crates/ringtap/out/ringtap ]; then
+"$interpreter" -c 'import sys; print("the checks run by", sys.executable, sys.version.split()[0])'
+if [ -z "${RINGTAP:-}" ] &&
+    { [ ! -x crates/ringtap/out/ringtap ] || [ ! -x crates/ringsize/out/ringsize ]; }; then
     sh demo/build.sh || exit 1
 fi
 workers=()

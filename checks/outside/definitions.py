@@ -33,10 +33,10 @@ Place = tuple[str, str]  # a crate and a module of it; a module of types begins 
 
 @dataclass
 class Module:
-    """A file: the sentence at its head, where its imported names and modules come from, and the
-    texts of its definitions."""
+    """A file: its lines without comments and imports, where its imported names and modules come
+    from, and the texts of its definitions."""
 
-    sentence: str
+    length: int
     imports: dict[str, Place] = field(default_factory=dict)
     aliases: dict[str, Place] = field(default_factory=dict)
     texts: dict[str, str] = field(default_factory=dict)
@@ -77,16 +77,10 @@ def texts_of(text: str) -> dict[str, str]:
 
 def module_of(path: Path) -> Module:
     text = path.read_text(encoding="utf-8")
-    head = re.match(r"(?:--.*\n)+", text)
-    words = (
-        " ".join(line.removeprefix("--").strip() for line in head[0].splitlines()) if head else ""
-    )
-    sentence = re.match(r".*?(?:[.](?=\s|$)|$)", words)
     bare = without_comments(text, "--")
-    return Module(
-        sentence[0] if sentence else "", imports_of(bare), aliases_of(bare),
-        texts_of(re.sub(r"(?m)^use .*", "", bare))
-    )
+    body = re.sub(r"(?m)^use .*", "", bare)
+    length = sum(1 for line in body.splitlines() if line.strip())
+    return Module(length, imports_of(bare), aliases_of(bare), texts_of(body))
 
 
 def modules() -> dict[Place, Module]:
@@ -112,7 +106,7 @@ def model_of(crate: str, module: str) -> Module | None:
     )
     text = "\n".join(blocks)
     return Module(
-        "", imports_of(text), aliases_of(text), {"Model": re.sub(r"(?m)^\s*ghost use .*", "", text)}
+        0, imports_of(text), aliases_of(text), {"Model": re.sub(r"(?m)^\s*ghost use .*", "", text)}
     )
 
 
@@ -121,7 +115,7 @@ def contract() -> Module:
     text = without_comments(CALLS.read_text(encoding="utf-8"), "//")
     begin = text.index(CALL)
     return Module(
-        "", imports_of(text), aliases_of(text), {"run": text[begin : text.index("\n{", begin)]}
+        0, imports_of(text), aliases_of(text), {"run": text[begin : text.index("\n{", begin)]}
     )
 
 
@@ -164,30 +158,38 @@ def follow(
 def page() -> str:
     known = modules()
     found = {place: names for place, names in reached(known).items() if names}
+    length = sum(known[place].length for place in found)
     lines = [
         "# The definitions", "",
-        "Made by `python3 checks/definitions.py --write`; `checks/outside/test_documents.py` says "
-        "where it is out of date.",
+        *wrapped(
+            "Made by `python3 checks/definitions.py --write`; `checks/outside/test_documents.py` "
+            "says where it is out of date."
+        ),
         "",
         *wrapped(
             "Contracts say that the code does what the definitions in the crates' `specs/` say: "
-            "functions and records over plain lists "
-            "and whole numbers, each under one sentence. You have to believe them, and nothing "
-            "else of a proof. Places and sizes are in "
-            "bytes, times in nanoseconds or milliseconds; blocks count from 1, CPUs, members, "
-            "frames and instructions from 0."
+            "functions and records over plain lists and whole numbers, each under one sentence; "
+            "a sentence at the head of a module says what it is about. You have to believe them, "
+            "and nothing else of a proof. Places and sizes are in bytes, times in nanoseconds or "
+            "milliseconds; blocks count from 1, CPUs, members, frames and instructions from 0."
         ),
         "",
         *wrapped(
             f"The contract of `run` reaches {sum(map(len, found.values()))} definitions in "
-            f"{len(found)} of {len(known)} modules. Read "
-            "those; the others are for a crate's own contracts, laws and proofs."
+            f"{len(found)} of {len(known)} modules, which have {length:,} "
+            "lines without comments and imports. Begin at the end, with `Headline` of tap_engine, "
+            "then `Reports` of run_reports, `Joined` of fanout_group and `Ring` of ring_model; "
+            "the rest is what these are made of. All others are for a crate's own contracts, "
+            "theorems and proofs."
         ),
+        "",
     ]
     for crate in sorted({place[0] for place in found}, key=order_of):
-        lines += ["", f"## {crate}", ""]
-        for place in (place for place in known if place[0] == crate and place in found):
-            lines += wrapped(f"- `{place[1]}`: {known[place].sentence}")
+        links = (
+            f"[{name}](../crates/{crate}/specs/{name.replace('.', '/')}.antt)"
+            for which, name in known if which == crate and (which, name) in found
+        )
+        lines += wrapped(f"- {crate}: {', '.join(links)}")
     return "\n".join(lines) + "\n"
 
 
@@ -221,7 +223,7 @@ def main() -> None:
             "docs/definitions.md isn't what the sources give: `python3 checks/definitions.py "
             "--write` makes it anew"
         )
-    print(f"definitions: {text.count(chr(10) + '- ')} modules that `run` reaches")
+    print(f"definitions: {text.count(chr(10) + '- ')} crates of which `run` reaches some")
 
 
 if __name__ == "__main__":

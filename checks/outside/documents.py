@@ -1,7 +1,8 @@
 """Whether the documents say what the program does: each word, status and line that the sources
 can print stands in docs/reference.md; each link of a document leads somewhere; each name of code
 that README, guarantees or a crate's README cites is in the sources; and each command of a
-document prints what stands below it."""
+document prints what stands below it; and the example of each library stands in a caller, which
+the gate proves and the tests run."""
 from __future__ import annotations
 
 import os
@@ -15,6 +16,12 @@ from places import TOP
 
 REFERENCE = TOP / "docs/reference.md"
 COLUMNS = 110  # of a line of README.md
+# The crates of definitions and theorems alone: nothing of them runs, or is cited by what runs.
+WITHOUT_CALLS = {"deal_rules", "pace_laws", "replay_laws", "ring_events", "ring_laws"}
+# The example of a crate's README: the source that it is from, and its lines.
+EXAMPLE = re.compile(
+    r"^## Example\n\n.*?from\s+\[\w+\]\(([^)]+)\):\n\n```rust\n(.*?)^```", re.M | re.S | re.I
+)
 
 Found = tuple[int, list[str]]  # how many things were looked at, and what is wrong with some
 Look = Callable[[], Found]
@@ -42,7 +49,7 @@ LINES = [
     ("tap_printing/src/summaries.rt", r'"( ?[a-z][^"]*)"'),
     ("tap_printing/src/refusals.rt", r'"( ?[a-z][^"]*)"'),
     ("tap_engine/src/findings.rt", r'b?"([a-z][^"]*)"'),
-    ("tap_engine/src/calls.rt", r'b"([a-z][^"]*)"'),
+    ("tap_running/src/printing.rt", r'b"([a-z][^"]*)"'),
     ("tx_ring/src/error.rt", r'"( ?[a-z][^"]*)"'),
 ]
 STATUSES, STATUS = "tap_engine/src/outcomes.rt", r"Status::\w+(?:\([^)]*\)| \{[^}]*\})? => (\d+)"
@@ -191,6 +198,56 @@ def names() -> Found:
                 if name not in known:
                     wrong.append(f"{path.relative_to(TOP)}: `{cited}` is no name of the sources")
     return found, wrong
+
+
+# ---- the examples of the crates
+
+
+def libraries() -> list[str]:
+    """The crates with calls that do something when they run, and no tests."""
+    found = []
+    for path in sorted(TOP.glob("crates/*/src/lib.rt")):
+        name = path.parent.parent.name
+        if not name.endswith("_tests") and name not in WITHOUT_CALLS:
+            found.append(name)
+    return found
+
+
+def code_of(text: str) -> list[str]:
+    """The lines of code, without their indentation and comments."""
+    bare = (re.sub(r"\s*//.*", "", line).strip() for line in text.splitlines())
+    return [line for line in bare if line]
+
+
+def pieces_of(text: str) -> list[list[str]]:
+    """The lines of an example, in pieces where `// ..` stands for lines that it leaves out."""
+    return [code_of(piece) for piece in re.split(r"(?m)^\s*// \.\.$", text)]
+
+
+def holds(lines: list[str], pieces: list[list[str]]) -> bool:
+    """Whether a source has the pieces, each as lines that follow one another."""
+    return all(
+        piece and any(lines[at : at + len(piece)] == piece for at in range(len(lines)))
+        for piece in pieces
+    )
+
+
+def examples() -> Found:
+    """The libraries without an example, and those whose example isn't in the source that it
+    names, which is another crate's."""
+    wrong = []
+    for name in libraries():
+        readme = TOP / "crates" / name / "README.md"
+        text = readme.read_text(encoding="utf-8") if readme.is_file() else ""
+        found = EXAMPLE.search(text)
+        source = (readme.parent / found[1]).resolve() if found else None
+        if not found or not source or not source.is_file():
+            wrong.append(f"crates/{name}/README.md has no example from a source")
+        elif source.is_relative_to(readme.parent):
+            wrong.append(f"crates/{name}/README.md: its example is from the crate itself")
+        elif not holds(code_of(source.read_text(encoding="utf-8")), pieces_of(found[2])):
+            wrong.append(f"crates/{name}/README.md: its example isn't in {source.relative_to(TOP)}")
+    return len(libraries()), wrong
 
 
 # ---- the commands of a document

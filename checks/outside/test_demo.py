@@ -10,7 +10,7 @@ from pathlib import Path
 import pytest
 
 import running
-from places import TOP
+from places import RINGSIZE, TOP
 from second import program as second_program
 
 EXPECTED = TOP / "demo" / "expected"
@@ -26,7 +26,9 @@ fi
 for crate in $(sed -n 's/^\([a-z_0-9]*\):.*/\1/p' "$top/crates.txt"); do
     mkdir -p "$top/crates/$crate/out/rlib" && touch "$top/crates/$crate/out/rlib/stamp"
 done
-cp "$PROGRAM" out/ringtap && exec out/ringtap replay no-setup no-schedule
+name=$(basename "$PWD")
+[ "$name" = ringtap ] || PROGRAM=$RINGSIZE
+cp "$PROGRAM" "out/$name" && exec "out/$name" "${@:3}"
 """
 
 
@@ -60,7 +62,8 @@ def copy(room: Path, first_program: Path) -> Path:
     """A copy in which the scripts run, with another `rt`."""
     shutil.copytree(TOP / "demo", room / "demo")
     shutil.copy(TOP / "crates.txt", room)
-    (room / "crates" / "ringtap").mkdir(parents=True)
+    for name in ("ringtap", "ringsize"):
+        (room / "crates" / name).mkdir(parents=True)
     (room / "fake").mkdir()
     (room / "fake" / "rt").write_text(FAKE_RT)
     (room / "fake" / "rt").chmod(0o755)
@@ -70,7 +73,10 @@ def copy(room: Path, first_program: Path) -> Path:
 def script(copy: Path, program: Path, *words: str) -> subprocess.CompletedProcess:
     """A script of demo/ in the copy."""
     environment = {
-        **os.environ, "PATH": f"{copy}/fake:{os.environ['PATH']}", "PROGRAM": str(program)
+        **os.environ,
+        "PATH": f"{copy}/fake:{os.environ['PATH']}",
+        "PROGRAM": str(program),
+        "RINGSIZE": str(RINGSIZE),
     }
     done, why = running.run(["sh", *words], cwd=copy, env=environment, text=True)
     assert done is not None, why
@@ -100,12 +106,14 @@ def test_an_unproved_try(name: str, copy: Path, first_program: Path) -> None:
 
 
 def test_build(copy: Path, first_program: Path) -> None:
-    """It says how far it is, makes a link to the program, and what is built isn't tried
+    """It says how far it is, makes links to the programs, and what is built isn't tried
     unproved."""
     done = script(copy, first_program, "demo/build.sh")
     assert done.returncode == 0, done.stderr
     assert " libraries are proved" in done.stderr and " min so far\n" in done.stderr
-    assert (copy / "bin/ringtap").resolve() == (copy / "crates/ringtap/out/ringtap").resolve()
+    for name in ("ringtap", "ringsize"):
+        link = copy / "bin" / name
+        assert link.resolve() == (copy / "crates" / name / "out" / name).resolve()
     done = script(copy, first_program, "demo/run.sh", "small")
     shows(copy, "small", done)
     assert "unproved" not in done.stderr

@@ -1,7 +1,7 @@
 """The documents: each word, line and status of the program is in docs/reference.md, each command
 of README.md and docs/guide.md prints what stands below it, links lead somewhere, names of code
-are names of the sources, and docs/definitions.md and the table of crates in CONTRIBUTING.md are
-what they give."""
+are names of the sources, each library's example stands in a source, and docs/definitions.md and
+the table of crates in CONTRIBUTING.md are what they give."""
 from __future__ import annotations
 
 import shutil
@@ -12,10 +12,12 @@ from pathlib import Path
 import pytest
 
 from outside import definitions, documents
-from places import TOP
+from places import RINGSIZE, TOP
 
 
-@pytest.mark.parametrize("look", [documents.words, documents.links, documents.names])
+@pytest.mark.parametrize("look", [
+    documents.words, documents.links, documents.names, documents.examples
+])
 def test_documents(look: documents.Look) -> None:
     found, wrong = look()
     assert wrong == []
@@ -43,8 +45,9 @@ def test_commands(name: str, program: Path, room: Path) -> None:
     (here / "try").mkdir()
     for part in ("demo", "tools"):
         shutil.copytree(TOP / part, here / part, symlinks=True)
-    shutil.copy(program, here / "bin/ringtap")
-    (here / "bin/ringtap").chmod(0o755)
+    for name_in_bin, built in (("ringtap", program), ("ringsize", RINGSIZE)):
+        shutil.copy(built, here / "bin" / name_in_bin)
+        (here / "bin" / name_in_bin).chmod(0o755)
     # tcpdump gives up its rights before it writes, where root runs it
     for folder in (here, here / "try"):
         folder.chmod(0o777)

@@ -15,20 +15,20 @@ import pytest
 
 import running
 from conftest import new_room
-from places import PROGRAMS, TOP
+from places import PROGRAMS, RINGSIZE, TOP
 
 TOOLS = [
     f"ringtap-{name}"
     for name in (
-        "beside", "blocks", "busiest", "lost", "report", "ring-of", "run", "schedule", "size",
-        "timeline",
+        "beside", "blocks", "busiest", "long", "lost", "report", "ring-of", "run", "schedule",
+        "size", "timeline",
     )
 ]
 PAGES = ["ringtap", *TOOLS]
 
 
 def install(program: Path, *words: object) -> subprocess.CompletedProcess:
-    environment = {**os.environ, "RINGTAP": str(program)}
+    environment = {**os.environ, "RINGTAP": str(program), "RINGSIZE": str(RINGSIZE)}
     return subprocess.run(
         ["sh", TOP / "install.sh", *words], env=environment, capture_output=True, text=True,
         check=False

@@ -1,16 +1,16 @@
 """Refuses each request for memory of a run in turn: of a check, of a replay with a dump, of one
 over slots, of a few frames that are made, of a capture that is sent, and of captures on threads,
 without a pool of workers and with one. Every such run ends, with status 7, or with the status,
-the lines and the files of a run with ample memory; what it saved before status 7 is what that
-run saves; and no thread is left. On threads the number of a request may be another one at each
-run; what the runs here give is the same. Then each thread in turn can't be started: such a run
-gives what every other gives."""
+the lines and the files of a run with ample memory; with status 7 each file is what that run
+saves, or what was there before; and no thread is left. On threads the number of a request may be
+another one at each run; what the runs here give is the same. Then each thread in turn can't be
+started: such a run gives what every other gives."""
 from __future__ import annotations
 
 import os
 import shutil
 import subprocess
-from collections.abc import Iterator
+from collections.abc import Iterable, Iterator
 from dataclasses import dataclass
 from pathlib import Path
 
@@ -23,6 +23,8 @@ pytestmark = pytest.mark.needs("cc")
 
 # Two CPUs, each with a member, a filter that passes all, and a timer whose moments close no block.
 TWO = "cpu a.pcap\nmembers 2\nfilter pass.ddd\nticks ticks.txt\n"
+# What an output holds before a run.
+OLD = b"old"
 # The words of a run, and how many requests it makes at least.
 RUNS = [
     ("check two.txt", 10), ("replay setup.txt schedule.txt", 20),
@@ -47,9 +49,11 @@ class Refusing:
     path: Path
     program: Path
 
-    def run(self, words: str, **refused: int) -> Ended:
+    def run(self, words: str, outputs: Iterable[str] = (), **refused: int) -> Ended:
         for old in [*self.path.glob("out.*"), self.path / "told", self.path / "left"]:
             old.unlink(missing_ok=True)
+        for name in outputs:
+            (self.path / name).write_bytes(OLD)
         preload = {
             "LD_PRELOAD": f"{self.path}/refuse.so", "TOLD": f"{self.path}/told",
             "LEFT": f"{self.path}/left"
@@ -66,11 +70,12 @@ class Refusing:
             {path.name: path.read_bytes() for path in self.path.glob("out.*")}
         )
 
-    def each(self, words: str, what: str) -> Iterator[tuple[int, Ended]]:
-        """The run with each request of a kind refused, by its number, until none is."""
+    def each(self, words: str, what: str, outputs: Iterable[str]) -> Iterator[tuple[int, Ended]]:
+        """The run with each request of a kind refused, by its number, until none is. These outputs
+        are there before each."""
         number = 1
         while True:
-            ended = self.run(words, **{what: number})
+            ended = self.run(words, outputs, **{what: number})
             if not (self.path / "told").exists():
                 return
             yield number, ended
@@ -97,9 +102,10 @@ def test_refused_memory(words: str, least: int, refusing: Refusing) -> None:
     ample = refusing.run(words)
     assert ample.status == 0
     number = 0
-    for number, ended in refusing.each(words, "REFUSED"):
+    for number, ended in refusing.each(words, "REFUSED", ample.files):
         if ended.status == 7:
-            assert ended.files.items() <= ample.files.items(), f"request {number}"
+            kept = {name for name, text in ended.files.items() if text == OLD}
+            assert ended.files == ample.files | dict.fromkeys(kept, OLD), f"request {number}"
             assert ended.lines.splitlines()[-1] == "out of memory", f"request {number}"
         else:
             assert ended == ample, f"request {number}"
@@ -111,6 +117,6 @@ def test_refused_threads(words: str, refusing: Refusing) -> None:
     ample = refusing.run(words)
     assert ample.status == 0
     number = 0
-    for number, ended in refusing.each(words, "NO_THREAD"):
+    for number, ended in refusing.each(words, "NO_THREAD", ample.files):
         assert ended == ample, f"thread {number}"
     assert number > 0

@@ -16,7 +16,7 @@ import pytest
 
 from conftest import new_room
 from outside import documents
-from places import PROGRAMS, TOP
+from places import PROGRAMS, RINGSIZE, TOP
 
 pytestmark = pytest.mark.needs("dpkg-deb")
 
@@ -25,7 +25,7 @@ pytestmark = pytest.mark.needs("dpkg-deb")
 def made() -> Iterator[Path]:
     """A folder with the package and the archive."""
     for room in new_room():
-        environment = {**os.environ, "RINGTAP": str(PROGRAMS[0])}
+        environment = {**os.environ, "RINGTAP": str(PROGRAMS[0]), "RINGSIZE": str(RINGSIZE)}
         subprocess.run(
             ["sh", TOP / "package.sh", room], env=environment, capture_output=True, check=True
         )

@@ -9,11 +9,8 @@ import pytest
 
 from places import TOP
 
-FILES = sorted(
-    path
-    for folder in ("bench", "checks", "demo", "tools")
-    for path in (TOP / folder).rglob("*.py")
-)
+FOLDERS = ("bench", "checks", "demo", "examples", "tools")
+FILES = sorted(path for folder in FOLDERS for path in (TOP / folder).rglob("*.py"))
 
 
 @pytest.mark.parametrize("path", FILES, ids=[str(path.relative_to(TOP)) for path in FILES])
@@ -25,7 +22,6 @@ def test_it_compiles(path: Path, room: Path) -> None:
 def test_flake8() -> None:
     """By the configuration of setup.cfg."""
     done = subprocess.run(
-        ["flake8", "bench", "checks", "demo", "tools"], cwd=TOP, capture_output=True, text=True,
-        check=False
+        ["flake8", *FOLDERS], cwd=TOP, capture_output=True, text=True, check=False
     )
     assert done.stdout.splitlines() == []

@@ -3,8 +3,10 @@ program gives what the second program works out, and so does the runner in memor
 differs shrinks, and is shown as a scenario that can be pasted into data/."""
 from __future__ import annotations
 
+import re
 import subprocess
 import tempfile
+from collections.abc import Callable
 from pathlib import Path
 
 import pytest
@@ -12,7 +14,7 @@ import pytest
 from second.setup import Setup
 from scenarios import worked
 from scenarios.test_scenarios import runner
-from scenarios.texts import Document, Scenario
+from scenarios.texts import Document, Scenario, scenarios
 
 hypothesis = pytest.importorskip(
     "hypothesis", reason="needs python3:hypothesis: no such module here"
@@ -27,6 +29,9 @@ FILTERS = [
     "3 | 32 0 0 4294963224 | 4 0 0 20 | 22 0 0 0",
     "1 | 6 0 0 40",
 ]
+FRONTS = {
+    "ipv4": "0200000000020200000000010800", "arp": "ffffffffffff0200000000030806",
+}
 FRAMES = (
     [f"{name}{length}" for name in ("", "ipv4:", "arp:") for length in (14, 60, 590, 1514)]
     + ["0", "13", "3966", "3967", "9000"]
@@ -59,12 +64,14 @@ def small_runs(draw: st.DrawFn) -> str:
         for line in [f"members {members}", mode, *more, *["filter f.ddd"] * bool(listing)]
     )
     text += f"  filter {listing}\n" if listing else ""
-    text += "  bytes ipv4 0200000000020200000000010800\n  bytes arp ffffffffffff0200000000030806\n"
-    for name in names:
-        text += (
-            " ".join(["  pcap", name, *draw(st.lists(st.sampled_from(FRAMES), max_size=8))])
-            + "\n"
-        )
+    captures = "".join(
+        " ".join(["  pcap", name, *draw(st.lists(st.sampled_from(FRAMES), max_size=8))]) + "\n"
+        for name in names
+    )
+    text += "".join(
+        f"  bytes {name} {front}\n" for name, front in FRONTS.items() if f"{name}:" in captures
+    )
+    text += captures
     steps = st.tuples(st.sampled_from(["feed", "feed", "read", "tick", "stats"]), st.integers(0, 5))
     moment = 0
     for word, number in draw(st.lists(steps, max_size=16)):
@@ -113,22 +120,43 @@ def examples(count: int) -> hypothesis.settings:
     )
 
 
-def test_the_program(program: Path) -> None:
-    @examples(150)
+def differs_nowhere(found_in: Callable[[Scenario], list[str]], count: int) -> None:
+    """In so many runs nothing is found. One in which something is found shrinks, and is shown with
+    what comes of it by the second program, after an empty line."""
+    @examples(count)
     @hypothesis.given(small_runs())
-    def differs_nowhere(text: str) -> None:
+    def each(text: str) -> None:
         whole = with_results(text)
-        found = worked.checked(read(whole), program)
-        assert not found, "\n".join(["", *found, "", whole])
+        if found := found_in(read(whole)):
+            raise AssertionError("\n".join(["", *found, "", whole]))
 
-    differs_nowhere()
+    each()
+
+
+def test_the_program(program: Path) -> None:
+    differs_nowhere(lambda scenario: worked.checked(scenario, program), 150)
+
+
+def test_a_run_that_is_shown_can_be_pasted(room: Path) -> None:
+    """The run that is shown for drops is a file of one scenario, of few lines, with a drop that the
+    second program finds in it."""
+    with pytest.raises(AssertionError) as raised:
+        differs_nowhere(lambda scenario: re.findall(r"drops [1-9]\d*", scenario.printed()), 150)
+    found, _, shown = str(raised.value).strip().partition("\n\n")
+    (room / "my.txt").write_text(shown + "\n")
+    (scenario,) = scenarios(room / "my.txt")
+    assert found.splitlines() == ["drops 1", "drops 1"]  # of a member and of the sum
+    assert worked.checked(scenario, None) == []
+    assert len(scenario.values("sched")) <= 5
+    assert sum(len(frames) for _, frames in scenario.captures()) <= 4
+    assert len(shown.splitlines()) <= 24
 
 
 def test_the_runner() -> None:
     """Twenty runs at a time, since starting it takes longer than a run."""
     @examples(25)
     @hypothesis.given(st.lists(small_runs(), min_size=1, max_size=20))
-    def differs_nowhere(texts: list[str]) -> None:
+    def each(texts: list[str]) -> None:
         whole = "\n".join(
             with_results(text).replace("a run", f"run {at}", 1) for at, text in enumerate(texts)
         )
@@ -140,4 +168,4 @@ def test_the_runner() -> None:
             )
         assert done.returncode == 0, f"\n{done.stdout}\n{whole}"
 
-    differs_nowhere()
+    each()

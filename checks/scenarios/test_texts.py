@@ -1,5 +1,5 @@
-"""What is wrong with a file of scenarios is said with its line, in one sentence, by the reader
-of these checks."""
+"""What is wrong with a file of scenarios is said with its line, in one sentence, by the reader of
+these checks; and what differs is shown with the numbers of the lines that say what is expected."""
 from __future__ import annotations
 
 import subprocess
@@ -9,7 +9,8 @@ from pathlib import Path
 import pytest
 
 from places import TOP
-from scenarios.texts import Document, Mistake, is_near
+from scenarios.spelling import is_near
+from scenarios.texts import Document, Mistake
 
 GOOD = """# A comment above the first scenario.
 base
@@ -55,13 +56,32 @@ SLIPS = {
         "# One at the end.\n", STEPS, 23,
         '"three steps" is like "two steps" in three steps, and two are allowed'
     ),
+    "a base that isn't there": (
+        "  base\n  # and", "  like bse\n  # and", 3, 'there is no scenario "bse"; "base" is meant?'
+    ),
+    "a name that is like itself": (
+        "like    base", "like    a full ring", 10,
+        '"a full ring" is like "a full ring" in three steps, and two are allowed'
+    ),
+    "an unknown struct": (
+        "48 packet", "48 pakcet", 17, '"pakcet" is no struct; "packet" is meant?'
+    ),
+    "an unknown field": (
+        "num_pkts", "num_pkt", 16, '"num_pkt" is no field of block; "num_pkts" is meant?'
+    ),
+    "an unknown field of the address": (
+        "sll_halen", "sll_halne", 17, '"sll_halne" is no field of packet; "sll_halen" is meant?'
+    ),
+    "a field of another struct": (
+        "sll_halen", "num_pkts", 17, '"num_pkts" is no field of packet'
+    ),
     "members out of order": (
         "member  0", "member  1", 15, 'the lines "member" are 1, and 0, 1 and so on is the order'
     ),
+    "a setup": (
+        "block_size", "blok_size", 6, '"blok_size" is no word of a setup; "block_size" is meant?'
+    ),
 }
-SETUP_SLIP = (
-    "block_size", "blok_size", 6, '"blok_size" is no word of a setup; "block_size" is meant?'
-)
 
 
 def slipped(slip: tuple[str, str, int, str]) -> str:
@@ -79,9 +99,9 @@ def said_of(text: str) -> str:
     return ""
 
 
-@pytest.mark.parametrize("what", SLIPS | {"a setup": SETUP_SLIP})
+@pytest.mark.parametrize("what", SLIPS)
 def test_a_slip(what: str) -> None:
-    slip = (SLIPS | {"a setup": SETUP_SLIP})[what]
+    slip = SLIPS[what]
     assert said_of(slipped(slip)) == f"my.txt:{slip[2]}: {slip[3]}"
 
 
@@ -106,9 +126,18 @@ def test_a_slip_is_one_line(room: Path) -> None:
     )
 
 
-def test_a_value_that_cant_be_read(room: Path) -> None:
-    done = by_command(room, GOOD.replace("1514x7", "1514y7"))
-    assert done.stdout.startswith("my.txt:9: a full ring: it can't be worked out: ")
+# A value that can't be read, and what is said of it.
+VALUES = [
+    ("1514x7", "1514y7", "invalid literal for int() with base 10: '1514y7'"),
+    ("sll_halen 6", "sll_halen 256", "sll_halen has 1 byte, too few for 256"),
+    ("sll_halen 6", "sll_halen", "the field sll_halen has no value"),
+]
+
+
+@pytest.mark.parametrize(("old", "other", "why"), VALUES)
+def test_a_value_that_cant_be_read(old: str, other: str, why: str, room: Path) -> None:
+    done = by_command(room, GOOD.replace(old, other))
+    assert done.stdout.splitlines()[0] == f"my.txt:9: a full ring: it can't be worked out: {why}"
     assert (done.stderr, done.returncode) == ("", 1)
 
 

@@ -7,32 +7,31 @@ lines, files, tries and notes.
 from __future__ import annotations
 
 import re
-from collections.abc import Iterable, Iterator
+from collections.abc import Iterator
 from dataclasses import dataclass
 from pathlib import Path
 
 from places import TOP
 from second import capture_bytes
 from second.capture_bytes import record
+from scenarios.fields import field_bytes, wrong_names
+from scenarios.spelling import meant
 
 Lines = list[str]
 
 TEXTS = {"filter": "f.ddd", "sched": "sched", "ticks": "t.txt"}
 LARGEST_CAPTURE = 33_554_432
-WORDS = frozenset(
-    "like base run plain conf with sched filter ticks pcap tail raw bytes cut pieces endless fail "
-    "half faults poor hold"
-    " status > taken cpu member frames report sent file fields part absent".split()
-)
+WORDS = (
+    "> absent base bytes conf cpu cut endless fail faults fields file filter frames half hold like "
+    "member part pcap pieces plain poor raw report run sched sent status tail taken ticks with"
+).split()
 # The words of a setup, as the first table of docs/reference.md has them.
-SETUP_WORDS = frozenset(
-    re.findall(
-        r"^\| `(\w+)",
-        (TOP / "docs/reference.md").read_text(encoding="utf-8").partition(
-            "| Line | Its value |"
-        )[2].partition("\n\n")[0],
-        re.M
-    )
+SETUP_WORDS = re.findall(
+    r"^\| `(\w+)",
+    (TOP / "docs/reference.md").read_text(encoding="utf-8").partition(
+        "| Line | Its value |"
+    )[2].partition("\n\n")[0],
+    re.M
 )
 
 
@@ -51,63 +50,6 @@ def repeated_line(line: str) -> str:
 def bytes_of(words: Lines) -> bytes:
     """The bytes of hexadecimal digits, of which a word may be repeated."""
     return b"".join(bytes.fromhex(digits) for word in words for digits in repeated(word))
-
-
-# The fields of <linux/if_packet.h>: place, size, and `>` where the bytes are in network order.
-ADDRESS = {
-    "sll_family": (0, 2, "<"), "sll_protocol": (2, 2, ">"), "sll_ifindex": (4, 4, "<"),
-    "sll_hatype": (8, 2, "<"), "sll_pkttype": (10, 1, "<"), "sll_halen": (11, 1, "<"),
-    "sll_addr": (12, 8, ">"),
-}
-
-
-def with_address(front: int, fields: dict[str, tuple[int, int]]) -> dict[str, tuple[int, int, str]]:
-    """The fields of a packet's header, and those of the address that follows it."""
-    found = {name: (place, size, "<") for name, (place, size) in fields.items()}
-    return (
-        found
-        | {name: (front + place, size, order) for name, (place, size, order) in ADDRESS.items()}
-    )
-
-
-FIELDS: dict[str, dict[str, tuple[int, int, str]]] = {
-    "block": {
-        name: (place, 8 if name == "seq_num" else 4, "<") for name,
-        place in {
-            "version": 0, "offset_to_priv": 4, "block_status": 8, "num_pkts": 12,
-            "offset_to_first_pkt": 16, "blk_len": 20, "seq_num": 24, "first_sec": 32,
-            "first_nsec": 36, "last_sec": 40, "last_nsec": 44,
-        }.items()
-    },
-    "packet": with_address(
-        48,
-        {
-            "tp_next_offset": (0, 4), "tp_sec": (4, 4), "tp_nsec": (8, 4), "tp_snaplen": (12, 4),
-            "tp_len": (16, 4), "tp_status": (20, 4), "tp_mac": (24, 2), "tp_net": (26, 2),
-            "tp_rxhash": (28, 4), "tp_vlan_tci": (32, 4), "tp_vlan_tpid": (36, 2),
-        }
-    ),
-    "slot": with_address(
-        32,
-        {
-            "tp_status": (0, 4), "tp_len": (4, 4), "tp_snaplen": (8, 4), "tp_mac": (12, 2),
-            "tp_net": (14, 2), "tp_sec": (16, 4), "tp_nsec": (20, 4), "tp_vlan_tci": (24, 2),
-            "tp_vlan_tpid": (26, 2),
-        }
-    ),
-}
-
-
-def field_bytes(struct: str, field: str, number: str) -> tuple[int, bytes]:
-    """Where a field stands in its struct, and the bytes of its value, which is decimal."""
-    if struct not in FIELDS:
-        raise LookupError(
-            f'"{struct}" is no struct{meant(struct, FIELDS)}; there are {", ".join(FIELDS)}'
-        )
-    if field not in FIELDS[struct]:
-        raise LookupError(f'"{field}" is no field of {struct}{meant(field, FIELDS[struct])}')
-    place, size, order = FIELDS[struct][field]
-    return place, int(number).to_bytes(size, "big" if order == ">" else "little")
 
 
 @dataclass(frozen=True)
@@ -317,6 +259,8 @@ class Scenario:
             yield name, int(at), bytes_of(digits), value
         for value in self.values("fields"):
             name, at, struct, *pairs = value.split()
+            if len(pairs) % 2 == 1:
+                raise ValueError(f"the field {pairs[-1]} has no value")
             for field, number in zip(pairs[::2], pairs[1::2]):
                 place, data = field_bytes(struct, field, number)
                 yield name, int(at) + place, data, f"{name} {at} {struct} {field} {number}"
@@ -350,26 +294,6 @@ class Line(str):
         return line
 
 
-def is_near(word: str, other: str) -> bool:
-    """Whether one letter differs: another one, one more, one less, or two that have changed
-    places."""
-    if sorted(word) == sorted(other):
-        return sum(a != b for a, b in zip(word, other)) == 2
-    front = next(
-        (at for at, (a, b) in enumerate(zip(word, other)) if a != b), min(len(word), len(other))
-    )
-    if len(word) == len(other):
-        return word[front + 1 :] == other[front + 1 :]
-    long, short = sorted((word, other), key=len, reverse=True)
-    return long[:front] + long[front + 1 :] == short
-
-
-def meant(word: str, known: Iterable[str]) -> str:
-    """A question that names the word that is meant, where one is near."""
-    near = sorted(other for other in known if len(other) > 2 and is_near(word, other))
-    return f'; "{near[0]}" is meant?' if near else ""
-
-
 def paragraphs(text: str) -> list[list[Line]]:
     """The lines of each scenario, the first of which is its name. A line that begins with `#` is
     a comment, wherever it stands."""
@@ -401,16 +325,21 @@ class Document:
                 )
             self.names.append(name)
             self.lines[name] = lines
-        for lines in self.lines.values():
+        for name, lines in self.lines.items():
             self.check_words(lines)
+            self.layers(name)
 
     def check_words(self, lines: list[Line]) -> None:
         for line in lines:
-            word = line.split()[0]
+            word, *values = line.split()
             if word not in WORDS:
                 raise Mistake(
                     self.path, line.number, f'"{word}" is no word of a scenario{meant(word, WORDS)}'
                 )
+            if word == "fields":
+                for value in " ".join(values).split(" | "):
+                    for what in wrong_names(value.split()):
+                        raise Mistake(self.path, line.number, what)
 
     def layers(self, name: str) -> list[list[Line]]:
         """The lines of a scenario, and those of the ones that it is like: two steps at most."""

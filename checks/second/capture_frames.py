@@ -5,7 +5,7 @@ import io
 from pathlib import Path
 
 import places  # noqa: F401  (by which the tools' modules are found)
-from ringtap_captures import CaptureStream, Frame, RefusedHeader
+from ringtap_tools.captures import CaptureStream, Frame, RefusedHeader
 
 
 def frames_of(data: bytes) -> tuple[list[Frame], str]:

@@ -7,6 +7,7 @@ is wrong with how the run ends.
 """
 from __future__ import annotations
 
+import difflib
 import os
 import tempfile
 from collections.abc import Callable, Iterable, Iterator, Sequence
@@ -33,7 +34,7 @@ class Case(Protocol):
     @property
     def listing(self) -> str | None: ...
 
-    def _replace(self, **changes: Any) -> Case: ...
+    def _asdict(self) -> dict[str, Any]: ...
 
 
 CaseOf = TypeVar("CaseOf", bound=Case)
@@ -90,6 +91,21 @@ def found_wrong(faults: Faults[CaseOf], case: CaseOf, run: Run[CaseOf]) -> list[
     return list(faults(case, *outcome)) if outcome else [str(why)]
 
 
+def line_difference(expected: str, found: str) -> str:
+    """Lines that are expected and lines that are found: those that differ after `-` and `+`."""
+    lines = difflib.unified_diff(
+        expected.splitlines(), found.splitlines(), "expected", "found", n=20, lineterm=""
+    )
+    return "\n".join(lines)
+
+
+def shown(case: Case) -> str:
+    """A case as it can be read: its texts line by line, and its captures by their sizes."""
+    sizes = [None if capture is None else len(capture) for capture in case.captures]
+    values = {**case._asdict(), "captures": sizes}
+    return "\n".join(f"{name}: {value}".rstrip("\n") for name, value in values.items())
+
+
 def wrong_runs(kind: str, faults: Faults[CaseOf], cases: Iterable[CaseOf], run: Run[CaseOf]) -> int:
     """How many runs of a kind are wrong, all in one folder. It prints which ones."""
     count, wrong = 0, 0
@@ -100,11 +116,7 @@ def wrong_runs(kind: str, faults: Faults[CaseOf], cases: Iterable[CaseOf], run: 
             found = found_wrong(faults, case, run)
             if found:
                 wrong += 1
-                sizes = [capture and len(capture) for capture in case.captures]
-                print(
-                    f"run {count}, captures by their sizes, {case._replace(captures=sizes)}: "
-                    f"{'; '.join(found[:3])}"
-                )
+                print("\n".join([f"run {count}:", *found[:3], shown(case), ""]))
         os.chdir(before)
     print(f"{count} {kind}, {wrong} of them wrong")
     return wrong

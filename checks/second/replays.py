@@ -398,7 +398,7 @@ def faults(case: Case, lines: str, files: Files, status: int) -> Iterator[str]:
     if status != (0 if ends == {"ok"} else 4):
         yield f"status {status}, where the captures end {sorted(ends)}"
     if lines != expected:
-        yield f"printed {lines!r} in place of {expected!r}"
+        yield f"it prints other lines:\n{outcomes.line_difference(expected, lines)}"
     if files.keys() != wanted.keys():
         yield f"saved {sorted(files)} in place of {sorted(wanted)}"
     for name in files.keys() & wanted.keys():

@@ -40,7 +40,19 @@ def test_made_frames_by_another_script() -> None:
 @pytest.mark.parametrize("case", [*(case for case, _, _ in WORKED), *PLAIN, *SLOTS])
 def test_run(case: Case, program: Path, inside: Path) -> None:
     """A run of a table: each is a case of its own."""
-    assert found_wrong(replays.faults, case, lambda case: replays.run_of(str(program), case)) == []
+    found = found_wrong(replays.faults, case, lambda case: replays.run_of(str(program), case))
+    assert not found, "\n".join([*found, outcomes.shown(case)])
+
+
+def test_other_lines_are_a_diff() -> None:
+    """With the texts of the case, of which each line stands alone."""
+    case, lines, _ = WORKED[0]
+    _, files = replays.worked_out(case)
+    other = lines.replace("packets ", "packets 1", 1)
+    (found,) = replays.faults(case, other, files, 0)
+    changed = [line for line in found.splitlines()[3:] if line[:1] in "+-"]
+    assert changed == [f"-{lines.splitlines()[1]}", f"+{other.splitlines()[1]}"]
+    assert set(case.setup.splitlines()[1:]) <= set(outcomes.shown(case).splitlines())
 
 
 @pytest.mark.parametrize(

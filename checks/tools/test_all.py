@@ -14,9 +14,11 @@ import sys
 import time
 from pathlib import Path
 
+import pytest
+
 from second.capture_bytes import header
 from second.hash_values import KEY
-from places import TOP
+from places import RINGSIZE, TOP
 from tools.here import BLOCK, Here, frame, refused
 
 TOOLS = sorted(
@@ -261,11 +263,12 @@ def examples(document: Path) -> list[tuple[list[str], str]]:
     return [(words, "\n".join(lines).rstrip("\n")) for words, lines in found]
 
 
-def test_examples(here: Here) -> None:
+def test_examples(here: Here, monkeypatch: pytest.MonkeyPatch) -> None:
     """The commands of docs/tools.md print what is shown below them; of a schedule, a timeline
     and a dump the first lines."""
     for name in ("demo", "checks", "examples"):
         (here.path / name).symlink_to(TOP / name)
+    monkeypatch.setenv("RINGSIZE", str(RINGSIZE))
     ours = (TOP / "demo" / "lo.pcap").read_bytes()
     here.saved("in.0.pcap", ours)
     here.saved("lo.pcap.gz", gzip.compress(ours))
@@ -276,13 +279,15 @@ def test_examples(here: Here) -> None:
         what, words = " ".join(shown), list[str | Path](shown)
         if shown[0] == "python3":
             has_program = shown[1] in (
-                "tools/ring_size.py", "tools/lost.py", "tools/timeline.py", "tools/run.py"
+                "tools/ring_size.py", "tools/long.py", "tools/lost.py", "tools/timeline.py",
+                "tools/run.py",
             )
             words = [
                 sys.executable, "-B", TOP / shown[1], *shown[2:],
                 *["--program", here.program] * has_program
             ]
         printed, said, status = here.answer(words)
+        said = re.sub(r"ringsize: .*about .* s\n", "", said)  # by the machine's speed
         given = (printed + said).rstrip("\n") if isinstance(status, int) else status
         if any(tool in what for tool in ("schedule.py", "timeline.py", "blocks.py")):
             given = "\n".join(given.split("\n")[: wanted.count("\n") + 1])

@@ -18,8 +18,8 @@ from second.capture_bytes import (
 )
 import pytest
 
-from ringtap_captures import CaptureStream
-from ringtap_files import Fault
+from ringtap_tools.captures import CaptureStream
+from ringtap_tools.files import Fault
 from places import TOP
 from tools.here import BLOCK, Here, SHOWN, frame
 

@@ -19,7 +19,7 @@ def test_stop_by_hand(here: Here) -> None:
     printed, said, status = here.with_program("ring_size.py", *words)
     assert (said, status) == ("", 0)
     found = {one["kind"]: one for one in json.loads(printed)["readings"]}
-    assert set(found) == {"stop", "speed"}
+    assert set(found) == {"stop", "speed"} and json.loads(printed)["phases"] == 1
     assert (found["stop"]["least"], found["stop"]["most"]) == (38, 65)
     assert (found["stop"]["begins"], found["stop"]["blocks"]) == ([0, 136], 3)
     # A block is filled each 28 ms, so 35.7 a second: a reader of as many loses none.

@@ -8,12 +8,12 @@ from fractions import Fraction
 import pytest
 
 from second.hash_values import KEY
-from ringtap_clock import Pace
-from ringtap_files import read_setup
-from ringtap_runs import Room
-from ringtap_search import Model
-from ringtap_trials import ROLLOVER, Ring
-from schedule import feeds, schedule_of, shape_of
+from ringtap_tools.clock import Pace
+from ringtap_tools.files import read_setup
+from ringtap_tools.runs import Room
+from ringtap_tools.search import Model
+from ringtap_tools.trials import ROLLOVER, Ring
+from ringtap_tools.schedule import feeds, schedule_of, shape_of
 from tools.here import Here, datagram_between
 
 GROUPS = 16
@@ -54,7 +54,8 @@ def pace_of(draw: random.Random, every: int) -> Pace:
     if reader and draw.random() < 0.6:
         stalls = ((Fraction(draw.randrange(100)), Fraction(draw.randrange(1, 100))),)
     phase, tick = Fraction(draw.randrange(every)), draw.choice([None, None, 5, 11])
-    return Pace(phase=phase, stalls=stalls, tick=tick, **reader)
+    begin = draw.choice([None, Fraction(0), Fraction(4)])
+    return Pace(phase=phase, stalls=stalls, tick=tick, begin=begin, **reader)
 
 
 @pytest.mark.parametrize("seed", range(GROUPS))

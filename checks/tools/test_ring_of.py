@@ -120,6 +120,8 @@ def test_other_sockets(here: Here) -> None:
     assert (made["setup"]["tov"], made["setup"]["block_nr"], made["filter"], made["warnings"]) == (
         250, 8, ["6 0 0 262144"], []
     )
+    made = json.loads(ring_of(here, "--inode", "590612", "--json")[0])
+    assert made["warnings"] == ["no_ethernet_header"]
 
 
 @pytest.mark.needs("packet sockets")

@@ -17,11 +17,11 @@ from pathlib import Path
 import pytest
 
 
-import ringtap_refusals as refusals
+from ringtap_tools import refusals
 import running
 from second.capture_bytes import header, record
 from second.hash_values import KEY
-from ringtap_memory import KEPT_HEAP, LARGE_PAGES, TOLD
+from ringtap_tools.memory import KEPT_HEAP, LARGE_PAGES, TOLD
 from places import TOP
 from tools.here import Answer, BLOCK, Here, frame
 
@@ -96,10 +96,21 @@ def test_files(here: Here) -> None:
         cwd=here.path, capture_output=True, text=True
     )
     assert (piped.stdout, piped.stderr, piped.returncode) == (lines, DONE.format("piped"), 0)
-    made = json.loads(run(here, "replay", "one.txt", "none.sched", "--json", "--into", "object")[0])
+    printed, said, _ = run(here, "replay", "one.txt", "none.sched", "--json", "--into", "object")
+    made = json.loads(printed)
     assert (
         made["status"], made["folder"], "\n".join(made["lines"]) + "\n", made["report"]["drops"]
     ) == (0, "object", lines, 44)
+    assert (said, made["refusal"]) == (DONE.format("object"), None)
+
+
+def test_a_refusal_as_an_object(here: Here) -> None:
+    """The object has the kind and the place, and standard error the sentence."""
+    here.text("no.txt", BLOCK + "cpu many.pcap\nmode cluster_flow\n")
+    printed, said, status = run(here, "replay", "no.txt", "none.sched", "--json")
+    made = json.loads(printed)
+    assert made["refusal"] == {"text": "setup", "line": 6, "kind": "unknown_word"}
+    assert 'Suricata\'s cluster_flow is "mode hash"' in said and (made["status"], status) == (2, 2)
 
 
 def test_clash(here: Here) -> None:

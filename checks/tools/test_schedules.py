@@ -20,9 +20,9 @@ import running
 from places import TOP
 from second.capture_bytes import header, record
 from second.hash_values import KEY
-from ringtap_captures import CaptureStream
-from ringtap_clock import Pace, Shape
-from schedule import Fed, feeds, schedule_of
+from ringtap_tools.captures import CaptureStream
+from ringtap_tools.clock import Pace, Shape
+from ringtap_tools.schedule import Fed, feeds, schedule_of
 from tools.here import Here
 
 MS = 1_000_000
@@ -48,8 +48,9 @@ def whole(fed: Fed, pace: Pace, shape: Shape) -> str:
         period, steps = pace.pause * MS, shape.block_nr
     if period:
         lines = "".join(steps * f"read {member}\n" for member in range(shape.members))
-        for number in itertools.count(1):
-            now = int(number * period)
+        begin = 0 if pace.begin is None else int(pace.begin * MS)
+        for number in itertools.count(pace.begin is None):
+            now = begin + int(number * period)
             if now > fed.end:
                 break
             if not any(start * MS <= now < (start + length) * MS for start, length in pace.stalls):
@@ -104,7 +105,8 @@ def paces(draw: random.Random) -> Pace:
         speed=Fraction(draw.choice([1, 1, 3])),
         tick=draw.choice([None, None, None, 0, 1, 3, 10, 250]),
         phase=Fraction(draw.choice([0, 0, 3, 77])), stalls=stalls,
-        stats=Fraction(draw.choice(["0", "0", "0.05"])), **reader,
+        stats=Fraction(draw.choice(["0", "0", "0.05"])),
+        begin=draw.choice([None, Fraction(0), Fraction(11)]) if reader else None, **reader,
     )
 
 

@@ -64,17 +64,27 @@ def test_story(here: Here) -> None:
     sums = printed.split("\n\n")[1].split("\n")[1].split()
     # The first moment at which the reader has both blocks is that of frame 56.
     assert sums == ["0", "86", "14", "2", "4", "2", "2", "0.056000000"]
-    assert here.titles("story.svg") == [
-        "member 0: at most 2 of 2 blocks", "member 0: frozen from 0.056 to 0.057 s, 1 dropped",
+    # 28 packets of 144 bytes are 4,032, so two full blocks have 8,064 of 2 * (4,096 - 48).
+    frozen = [
+        "member 0: frozen from 0.056 to 0.057 s, 1 dropped",
         "member 0: frozen from 0.087 to 0.099 s, 13 dropped",
+    ]
+    assert here.titles("story.svg") == [
+        "member 0: at most 2 of 2 blocks", *frozen,
+        "member 0: at most 8,064 of 8,096 bytes", *frozen,
     ]
     made = json.loads(
         here.with_program("timeline.py", setup, "story.sched", "--json", "--first", "1")[0]
     )
-    assert (
-        made["events"][0]["what"], made["events"][0]["seconds"], made["members"][0]["drops"],
-        made["members"][0]["at"]
-    ) == ("frame 29 doesn't fit: block 1 is retired, block 2 is opened", 0.028, 14, 0.056)
+    assert made["events"][0] == {
+        "seconds": 0.028, "line": made["events"][0]["line"], "member": 0, "reader_has": 1,
+        "kind": "full", "cpu": 0, "frame": 29, "retired": 1, "opened": 2,
+    }
+    member = made["members"][0]
+    assert (member["drops"], member["at"], member["most_bytes"]) == (14, 0.056, 8064)
+    # The first frame takes 144 bytes, and the 29th comes while the reader has a whole block.
+    assert member["bytes"][:2] == [[0.0, 0], [0.0, 144]]
+    assert [0.028, 4032 + 144] in member["bytes"]
 
 
 def test_demo(here: Here) -> None:

@@ -1,0 +1,100 @@
+""".ci/run has the checks run where the proofs passed, and answers as it has to; with CI set no
+check leaves itself out."""
+from __future__ import annotations
+
+import os
+import shutil
+import subprocess
+import sys
+from pathlib import Path
+
+import pytest
+
+from places import TOP
+
+# The stubs write down that they were called, and end as they are told.
+STUBS = {
+    "rt": 'echo "rt $*" >>called\necho "rt: ok"\necho "3 passed, $RT failed"\nexit "$RT"\n',
+    "checks/needs.sh": 'echo "needs.sh $*" >>called\necho "needs.sh: missing here: valgrind"\n',
+    "checks/run.sh": 'echo "run.sh CI=$CI" >>called\necho "checks: some"\nexit "$CHECKS"\n',
+}
+
+
+@pytest.mark.parametrize(
+    ("proofs", "checks", "status", "called"),
+    [
+        (0, 0, 0, ["rt ci", "needs.sh --install --light", "run.sh CI=gate"]),
+        (0, 1, 1, ["rt ci", "needs.sh --install --light", "run.sh CI=gate"]),
+        (2, 0, 2, ["rt ci"]),
+    ]
+)
+def test_gate(proofs: int, checks: int, status: int, called: list[str], room: Path) -> None:
+    """Its last line is that of `rt ci`, its status too, or 1 where a check failed."""
+    for name, text in STUBS.items():
+        path = room / name
+        path.parent.mkdir(exist_ok=True)
+        path.write_text("#!/bin/sh\n" + text)
+        path.chmod(0o755)
+    (room / ".ci").mkdir()
+    shutil.copy(TOP / ".ci/run", room / ".ci")
+    environment = {
+        **os.environ, "PATH": f"{room}:{os.environ['PATH']}", "RT": str(proofs),
+        "CHECKS": str(checks)
+    }
+    environment.pop("CI", None)
+    done = subprocess.run(
+        ["bash", room / ".ci/run"], cwd="/", env=environment, capture_output=True, text=True,
+        check=False
+    )
+    assert done.returncode == status
+    assert done.stdout.splitlines()[-1] == f"3 passed, {proofs} failed"
+    assert ("needs.sh: missing here: valgrind" in done.stdout.splitlines()[-2:]) == (proofs == 0)
+    assert (room / "called").read_text().splitlines() == called
+
+
+SKIPPING = '''
+import pytest
+
+
+@pytest.mark.needs("no-such-command")
+def test_without_its_need():
+    assert False
+
+
+@pytest.mark.needs("sh")
+def test_that_leaves_itself_out():
+    pytest.skip("it is Sunday")
+
+
+def test_that_passes():
+    pass
+'''
+LACKING = "skipped: 1 check: needs no-such-command: it isn't here (checks/needs.sh)"
+
+
+def skipping(room: Path, ci: str) -> subprocess.CompletedProcess:
+    """A run of three tests, by the settings of these checks."""
+    (room / "test_some.py").write_text(SKIPPING)
+    words = ["-q", "-p", "conftest", "-p", "no:cacheprovider", "-c", TOP / "setup.cfg"]
+    return subprocess.run(
+        [sys.executable, "-B", "-m", "pytest", *words, f"--rootdir={room}", "test_some.py"],
+        cwd=room,
+        env={**os.environ, "PYTHONPATH": str(TOP / "checks"), "CI": ci}, capture_output=True,
+        text=True, check=False
+    )
+
+
+def test_a_skip_is_said(room: Path) -> None:
+    lines = skipping(room, "").stdout.splitlines()
+    assert {LACKING, "skipped: 1 check: it is Sunday"} <= {*lines}
+    assert "checks: 1 passed, 0 failed, 2 skipped" in lines
+
+
+def test_in_the_gate_a_skip_needs_a_need(room: Path) -> None:
+    done = skipping(room, "gate")
+    lines = done.stdout.splitlines()
+    assert done.returncode == 1
+    assert "checks: 1 passed, 1 failed, 1 skipped" in lines
+    assert LACKING in lines
+    said = "leaves itself out, though what it needs is there: it is Sunday"
+    assert f"test_some.py::test_that_leaves_itself_out {said}" in lines
