@@ -2,8 +2,8 @@
 # sh install.sh PREFIX: puts the program, the tools, their man pages, completion for bash, and the
 # documents with the demo and the examples below a folder, as /usr/local.
 #
-# The program is bin/ringtap, which demo/build.sh builds, or the one that RINGTAP names; bin/ringsize
-# goes along where it is there. The tools need python3, and run from any folder: ringtap-size,
+# The program is bin/ringtap, which demo/build.sh builds, or the one that RINGTAP names; ringsize, of
+# bin/ or as RINGSIZE names it, goes along where it is there. The tools need python3, and run from any folder: ringtap-size,
 # ringtap-lost and so on, in PREFIX/bin, are links to the files in PREFIX/lib/ringtap. The documents
 # lie in PREFIX/share/doc/ringtap as in the repository, with all that they link to.
 set -eu
@@ -13,6 +13,7 @@ if [ $# -ne 1 ] || [ -z "$1" ]; then
 fi
 here=$(cd "$(dirname "$0")" && pwd)
 program=${RINGTAP:-$here/bin/ringtap}
+sizer=${RINGSIZE:-$here/bin/ringsize}
 if [ ! -x "$program" ]; then
     echo "install.sh: $program isn't there: \`sh demo/build.sh\` builds it, and RINGTAP names another" >&2
     exit 1
@@ -26,7 +27,7 @@ prefix=$(cd "$1" && pwd)
 library=$prefix/lib/ringtap
 documents=$prefix/share/doc/ringtap
 completions=$prefix/share/bash-completion/completions
-mkdir -p "$prefix/bin" "$library" "$documents" "$prefix/share/man/man1" "$completions"
+mkdir -p "$prefix/bin" "$library/ringtap_tools" "$documents" "$prefix/share/man/man1" "$completions"
 
 # Puts files into a folder; one that is there is replaced, whoever runs it.
 put() {
@@ -44,11 +45,14 @@ put 755 "$prefix/bin" "$program"
 if [ "${program##*/}" != ringtap ]; then
     mv "$prefix/bin/${program##*/}" "$prefix/bin/ringtap"
 fi
-if [ -x "$here/bin/ringsize" ]; then
-    put 755 "$prefix/bin" "$here/bin/ringsize"
+if [ -x "$sizer" ]; then
+    put 755 "$prefix/bin" "$sizer"
+    put 644 "$prefix/share/man/man1" "$here/docs/ringsize.1"
+    echo "complete -o default ringsize" >"$completions/ringsize"
 fi
 put 644 "$library" "$here"/tools/*.py
-rm -f "$library/make_man.py"
+put 644 "$library/ringtap_tools" "$here"/tools/ringtap_tools/*.py
+rm -f "$library/make_man.py" "$library/ringtap_tools/make_man.py"
 cp "$here/tools/ringtap.bash" "$completions/ringtap"
 python3 -B "$here/tools/make_man.py" --into "$prefix/share/man/man1"
 python3 -B "$here/tools/make_man.py" --names | while read -r file name; do

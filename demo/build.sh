@@ -1,5 +1,5 @@
 #!/bin/sh
-# sh demo/build.sh: proves the crates that the program stands on, builds it, and makes the link bin/ringtap to it.
+# sh demo/build.sh: proves the crates that ringtap and ringsize stand on, builds them, and makes links to them in bin/.
 # The first time takes about 25 minutes on four processors; where nothing has changed since, it takes a few seconds.
 set -eu
 cd "$(dirname "$0")/.."
@@ -7,20 +7,18 @@ if ! command -v rt >/dev/null; then
     echo "demo/build.sh: rt, the command of the Rattle kit, isn't here" >&2
     exit 1
 fi
-folder=crates/ringtap
-log=$folder/out/build.log
 
-# The crates that the program stands on, lowest first, as crates.txt has them.
+# The crates that the programs stand on, lowest first, as crates.txt has them.
 needed() {
     awk -F: '
         function walk(name, i, count, names) {
             if (seen[name]++) return
             count = split(below[name], names, " ")
             for (i = 1; i <= count; i++) if (names[i] in below) walk(names[i])
-            if (name != "ringtap") print name
+            if (name != "ringtap" && name != "ringsize") print name
         }
         !/^ *(#|$)/ { split($1, head, " "); below[head[1]] = $2 }
-        END { walk("ringtap") }
+        END { walk("ringtap"); walk("ringsize") }
     ' crates.txt
 }
 
@@ -35,7 +33,7 @@ progress() {
             now=", now $crate"
         fi
     done
-    [ "$proved" -lt "$count" ] || now=", now the program"
+    [ "$proved" -lt "$count" ] || now=", now the programs"
     echo "$proved of $count libraries are proved$now; $((($(date +%s) - started) / 60)) min so far"
 }
 
@@ -55,21 +53,30 @@ show_progress() {
     [ ! -t 2 ] || printf '\r\033[K' >&2
 }
 
+# Builds a program. `rt run` runs what it built, and here with words that name no file: status 5 is the program's own.
+build() {
+    program=$1
+    shift
+    folder=crates/$program
+    log=$folder/out/build.log
+    mkdir -p "$folder/out" bin
+    (cd "$folder" && exec rt run -- "$@") >"$log" 2>&1 &
+    building=$!
+    trap 'kill "$building" 2>/dev/null; exit 130' INT TERM
+    show_progress "$building"
+    status=0
+    wait "$building" || status=$?
+    if [ "$status" -ne 5 ]; then
+        tail -n 20 "$log" >&2
+        echo "$program wasn't built: $log has the whole story" >&2
+        exit 1
+    fi
+    ln -sf "../$folder/out/$program" "bin/$program"
+    echo "built: bin/$program" >&2
+}
+
 crates=$(needed)
 count=$(echo "$crates" | wc -l)
 started=$(date +%s)
-mkdir -p "$folder/out" bin
-# `rt run` runs what it built, and here with names of files that aren't there: status 5 is the program's own.
-(cd "$folder" && exec rt run -- replay no-setup no-schedule) >"$log" 2>&1 &
-building=$!
-trap 'kill "$building" 2>/dev/null; exit 130' INT TERM
-show_progress "$building"
-status=0
-wait "$building" || status=$?
-if [ "$status" -ne 5 ]; then
-    tail -n 20 "$log" >&2
-    echo "ringtap wasn't built: $log has the whole story" >&2
-    exit 1
-fi
-ln -sf "../$folder/out/ringtap" bin/ringtap
-echo "built: bin/ringtap" >&2
+build ringtap replay no-setup no-schedule
+build ringsize no-setup no-reader
