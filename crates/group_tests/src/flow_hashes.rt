@@ -1,5 +1,5 @@
 //! The published verification suite of receive side scaling, and flows that another program hashed.
-use flow_hash::{Key, flow_hash, toeplitz};
+use flow_hash::{Key, KeyError, flow_hash, toeplitz};
 use frame_view::{Headers, Link, Memory, V4Part, V6Part};
 use std::alloc::Global;
 use std::process::Abort;
@@ -91,6 +91,29 @@ fn joined(alloc: Global, first: &[u8], second: &[u8]) -> Result<Vec<u8>, Memory>
     let mut bytes = first.to_vec(alloc)?;
     bytes.extend_from_slice(second)?;
     Ok(bytes)
+}
+
+/// Texts that aren't keys: one digit, an even number of digits that aren't 80, a letter that is no
+/// digit, and nothing.
+static REFUSED: [(&[u8], KeyError); 4] = [
+    (b"6", KeyError::NotHex),
+    (b"6d5a", KeyError::WrongLength),
+    (b"6g", KeyError::NotHex),
+    (b"", KeyError::WrongLength),
+];
+
+/// Compares why each of these texts isn't a key.
+fn check_refused(rt: &impl Abort, alloc: Global, rows: &[(&[u8], KeyError)]) {
+    for (text, error) in rows {
+        let refused = Key::from_hex(alloc, text).err();
+        assert_eq!(rt; (*text, refused), (*text, Some(*error)));
+    }
+}
+
+#[test]
+fn says_why_a_text_is_no_key(rt: HostRuntime) -> Result<(), Fail> {
+    check_refused(&rt, rt.alloc(), &REFUSED);
+    Ok(())
 }
 
 /// Two ports, one after another.
