@@ -2,12 +2,12 @@
 use denote.Param.Send.{IsSend, sendable}
 use Rattle.std.proofs.Crossing.{crosses}
 use Rattle.atomic_blocks.proofs.web.Seat.TheSendSync as pass
-use Rattle.block_pool.specs.contracts.pieces.Piece as Piece
+use Rattle.block_pool.specs.contracts.pieces.DecodedPiece as DecodedPiece
 use Rattle.block_pool.specs.contracts.workers.PoolWorker as PoolWorker
 use Rattle.cpu_feeders.proofs.Crossings.{seat_send}
 use Rattle.work_queue.specs.contracts.passes.WorkPass as WorkPass
 
-pub piece_send : IsSend Piece.the_row
+pub piece_send : IsSend DecodedPiece.the_row
 piece_send = search (sendable, crosses) depth 40
 
 pub pass_send : IsSend WorkPass.the_row

@@ -4,13 +4,13 @@ use Rattle.std.specs.Prelude.{Result, Ok, Err, IfOk, OnOk}
 use Rattle.std.specs.Result.{is_err}
 use Rattle.block_pool.specs.Pieces.{IsPieceOf}
 use Rattle.block_pool.specs.Workers.{HasDecoded}
-use Rattle.block_pool.specs.declared.pieces.Piece.{Piece}
+use Rattle.block_pool.specs.declared.pieces.DecodedPiece.{DecodedPiece}
 use Rattle.block_pool.specs.declared.workers.PoolWorker.{PoolWorker}
 use Rattle.cpu_feeders.proofs.OneMore.{zip_more}
 use Rattle.work_queue.specs.Passes.{PassValue, QueueValue, has_fetched}
 use Rattle.work_queue.specs.declared.works.Work.{Work}
 
-pub decoded_more : (dumps : Bool) (queue : QueueValue) (before after now : PoolWorker) (work : Work) (piece : Piece)
+pub decoded_more : (dumps : Bool) (queue : QueueValue) (before after now : PoolWorker) (work : Work) (piece : DecodedPiece)
     → HasDecoded dumps queue before after → after.full ≡ false
     → now.pass ≡ has_fetched after.pass work → now.fetches ≡ after.fetches + 1
     → now.pieces.items ≡ after.pieces.items ++ piece ∷ [] → IsPieceOf dumps work piece

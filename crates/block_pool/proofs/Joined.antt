@@ -9,7 +9,7 @@ use Rattle.cpu_feeders.specs.Reports.{AreOutputsOf}
 use Rattle.block_pool.specs.inside.PieceTables.{AreFull, HasPlaceIn, counts_of, empty_table, put_each, read_of}
 use Rattle.block_pool.specs.Takers.{HandingValue, HasNumbered, first_takers, handing_base, handing_taken}
 use Rattle.block_pool.specs.Workers.{HasDecoded, IsFreshPassOf}
-use Rattle.block_pool.specs.declared.pieces.Piece.{Piece}
+use Rattle.block_pool.specs.declared.pieces.DecodedPiece.{DecodedPiece}
 use Rattle.block_pool.specs.declared.workers.PoolWorker.{PoolWorker}
 use Rattle.block_pool.proofs.FreshThreads.{all_drop, all_take, fresh_ones, own_ones, passes_long}
 use Rattle.block_pool.proofs.Members.{AreMembers, handed_of, passes_of}
@@ -65,7 +65,7 @@ tables_of : (takers : List HandingValue)
     → map (λ (taker : HandingValue). empty_table (length taker.pass.handed)) takers ≡ empty_for (handed_of takers)
 tables_of [] = refl
 tables_of (taker ∷ takers) =
-    ap (λ (ss : List (List (Option Piece))). empty_table (length taker.pass.handed) ∷ ss) (tables_of takers)
+    ap (λ (ss : List (List (Option DecodedPiece))). empty_table (length taker.pass.handed) ∷ ss) (tables_of takers)
 
 module _ (shape : RingRequest) (dumps : Bool) (queue : QueueValue) (members workers : ℕ) (before after : List PoolWorker)
     (takers : List HandingValue) (notes : List (List Note)) {passes front back : List PassValue} {firsts : List HandingValue}
@@ -96,8 +96,9 @@ module _ (shape : RingRequest) (dumps : Bool) (queue : QueueValue) (members work
       (workers_own dumps queue before after decoded))
 
   module _ (numbered : AllByRecursion HasNumbered takers) (full : AllByRecursion (λ (d : PoolWorker). d.full ≡ false) after)
-      (left : List Work) (history : IsHistory closing left) (more : List Piece) (rest : AllZip (IsPieceOf dumps) left more)
-      {kept : List Piece} (kept_are : kept ≡ all_pieces after) {tables : List (List (Option Piece))}
+      (left : List Work) (history : IsHistory closing left) (more : List DecodedPiece)
+      (rest : AllZip (IsPieceOf dumps) left more)
+      {kept : List DecodedPiece} (kept_are : kept ≡ all_pieces after) {tables : List (List (Option DecodedPiece))}
       (tables_are : tables ≡ map (λ (taker : HandingValue). empty_table (length taker.pass.handed)) takers) where
     in_order : AreMembers 0 shape takers
     in_order = members_are shape 0 notes front takers are numbered
@@ -106,20 +107,21 @@ module _ (shape : RingRequest) (dumps : Bool) (queue : QueueValue) (members work
     whole = subst (λ (ps : List PassValue). IsHistory ps left) closing_are history
 
     all_of : kept ++ more ≡ all_pieces after ++ more
-    all_of = ap (λ (ps : List Piece). ps ++ more) kept_are
+    all_of = ap (λ (ps : List DecodedPiece). ps ++ more) kept_are
 
     empty : tables ≡ empty_for (handed_of takers)
     empty = tables_are ∙ tables_of takers
 
     pub fit : AllByRecursion (HasPlaceIn (counts_of tables)) (kept ++ more)
-    fit = subst (λ (ps : List Piece). AllByRecursion (HasPlaceIn (counts_of tables)) ps) (sym all_of)
-        (subst (λ (ss : List (List (Option Piece))). AllByRecursion (HasPlaceIn (counts_of ss)) (all_pieces after ++ more))
+    fit = subst (λ (ps : List DecodedPiece). AllByRecursion (HasPlaceIn (counts_of tables)) ps) (sym all_of)
+        (subst (λ (ss : List (List (Option DecodedPiece))). AllByRecursion (HasPlaceIn (counts_of ss))
+        (all_pieces after ++ more))
         (sym empty)
         (pieces_fit shape dumps queue takers before after left in_order decoded full whole more rest))
 
     put_of : put_each tables (kept ++ more) ≡ put_each (empty_for (handed_of takers)) (all_pieces after ++ more)
-    put_of = ap (λ (ss : List (List (Option Piece))). put_each ss (kept ++ more)) empty
-        ∙ ap (λ (ps : List Piece). put_each (empty_for (handed_of takers)) ps) all_of
+    put_of = ap (λ (ss : List (List (Option DecodedPiece))). put_each ss (kept ++ more)) empty
+        ∙ ap (λ (ps : List DecodedPiece). put_each (empty_for (handed_of takers)) ps) all_of
 
     pub all_full : AreFull (put_each tables (kept ++ more))
     all_full = subst AreFull (sym put_of) (tables_full shape dumps queue takers before after left in_order decoded full whole
@@ -128,7 +130,7 @@ module _ (shape : RingRequest) (dumps : Bool) (queue : QueueValue) (members work
     pub outputs_read : {outputs : List Outputs} → outputs ≡ map read_of (put_each tables (kept ++ more))
         → AllZip (AreOutputsOf shape dumps) notes outputs
     outputs_read is = subst (λ (os : List Outputs). AllZip (AreOutputsOf shape dumps) notes os)
-        (sym (is ∙ ap (λ (ss : List (List (Option Piece))). map read_of ss) put_of))
+        (sym (is ∙ ap (λ (ss : List (List (Option DecodedPiece))). map read_of ss) put_of))
         (outputs_are shape dumps 0 notes (first_takers shape 0 front) takers
         (put_each (empty_for (handed_of takers)) (all_pieces after ++ more)) are in_order
         (filled shape dumps queue takers before after left in_order decoded full whole more rest))

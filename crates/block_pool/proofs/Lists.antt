@@ -5,7 +5,7 @@ use Rattle.std.specs.Prelude.{flat_map}
 use Rattle.std.specs.List.{AllByRecursion}
 use Rattle.block_pool.specs.inside.PieceTables.{HasPlaceIn, counts_of, packets_at, put_each, put_one, texts_at}
 use Rattle.block_pool.specs.Takers.{HandingValue, first_takers, handing_value}
-use Rattle.block_pool.specs.declared.pieces.Piece.{Piece}
+use Rattle.block_pool.specs.declared.pieces.DecodedPiece.{DecodedPiece}
 use Rattle.frame_view.specs.declared.frames.Packet.{Packet}
 use Rattle.tp_layout.specs.declared.requests.RingRequest.{RingRequest}
 use Rattle.work_queue.specs.Passes.{PassValue}
@@ -51,33 +51,36 @@ none_left {A = A} P rest none = subst (λ (xs : List A). AllByRecursion P xs) (s
 
 -- ---- the packets and the texts of a table
 
-pub next_packets : (done now all : List Packet) (rest after : List (Option Piece)) (place : Option Piece) (piece : Piece)
+pub next_packets : (done now all : List Packet) (rest after : List (Option DecodedPiece)) (place : Option DecodedPiece)
+    (piece : DecodedPiece)
     → rest ≡ place ∷ after → place ≡ Some piece
     → now ≡ done ++ piece.packets → done ++ packets_at rest ≡ all → now ++ packets_at after ≡ all
 next_packets done now all rest after place piece next is now_is h =
     ap (λ (ps : List Packet). ps ++ packets_at after) now_is ∙ append_assoc done piece.packets (packets_at after)
-    ∙ ap (λ (p : Option Piece). done ++ packets_at (p ∷ after)) (sym is)
-    ∙ ap (λ (ps : List (Option Piece)). done ++ packets_at ps) (sym next) ∙ h
+    ∙ ap (λ (p : Option DecodedPiece). done ++ packets_at (p ∷ after)) (sym is)
+    ∙ ap (λ (ps : List (Option DecodedPiece)). done ++ packets_at ps) (sym next) ∙ h
 
-pub next_texts : (done now all : List ℕ) (rest after : List (Option Piece)) (place : Option Piece) (piece : Piece)
+pub next_texts : (done now all : List ℕ) (rest after : List (Option DecodedPiece)) (place : Option DecodedPiece)
+    (piece : DecodedPiece)
     → rest ≡ place ∷ after → place ≡ Some piece
     → now ≡ done ++ piece.text → done ++ texts_at rest ≡ all → now ++ texts_at after ≡ all
 next_texts done now all rest after place piece next is now_is h =
     ap (λ (ts : List ℕ). ts ++ texts_at after) now_is ∙ append_assoc done piece.text (texts_at after)
-    ∙ ap (λ (p : Option Piece). done ++ texts_at (p ∷ after)) (sym is)
-    ∙ ap (λ (ps : List (Option Piece)). done ++ texts_at ps) (sym next) ∙ h
+    ∙ ap (λ (p : Option DecodedPiece). done ++ texts_at (p ∷ after)) (sym is)
+    ∙ ap (λ (ps : List (Option DecodedPiece)). done ++ texts_at ps) (sym next) ∙ h
 
-pub last_packets : (done all : List Packet) (rest : List (Option Piece)) → rest ≡ []
+pub last_packets : (done all : List Packet) (rest : List (Option DecodedPiece)) → rest ≡ []
     → done ++ packets_at rest ≡ all → done ≡ all
 last_packets done all rest none h =
-    sym (append-nil done) ∙ ap (λ (ps : List (Option Piece)). done ++ packets_at ps) (sym none) ∙ h
+    sym (append-nil done) ∙ ap (λ (ps : List (Option DecodedPiece)). done ++ packets_at ps) (sym none) ∙ h
 
-pub last_texts : (done all : List ℕ) (rest : List (Option Piece)) → rest ≡ [] → done ++ texts_at rest ≡ all → done ≡ all
-last_texts done all rest none h = sym (append-nil done) ∙ ap (λ (ps : List (Option Piece)). done ++ texts_at ps) (sym none) ∙ h
+pub last_texts : (done all : List ℕ) (rest : List (Option DecodedPiece)) → rest ≡ [] → done ++ texts_at rest ≡ all → done ≡ all
+last_texts done all rest none h = sym (append-nil done) ∙ ap (λ (ps : List (Option DecodedPiece)). done ++ texts_at ps)
+    (sym none) ∙ h
 
 -- ---- pieces that are put
 
-set_count : (tables : List (List (Option Piece))) (index : ℕ) (table : List (Option Piece))
+set_count : (tables : List (List (Option DecodedPiece))) (index : ℕ) (table : List (Option DecodedPiece))
     → length table ≡ length (get_or tables index [])
     → counts_of (set tables index table) ≡ counts_of tables
 set_count [] index table same = refl
@@ -85,18 +88,20 @@ set_count (s ∷ tables) zero table same = ap (λ (n : ℕ). n ∷ counts_of tab
 set_count (s ∷ tables) (suc index) table same = ap (λ (ns : List ℕ). length s ∷ ns) (set_count tables index table same)
 
 -- no table gets longer or shorter
-pub put_counts : (tables : List (List (Option Piece))) (piece : Piece) → counts_of (put_one tables piece) ≡ counts_of tables
+pub put_counts : (tables : List (List (Option DecodedPiece))) (piece : DecodedPiece)
+    → counts_of (put_one tables piece) ≡ counts_of tables
 put_counts tables piece =
     set_count tables piece.member _ (length-set (get_or tables piece.member []) (piece.number - 1) (Some piece))
 
-pub next_put : (tables now : List (List (Option Piece))) (rest after : List Piece) (piece : Piece)
-    (all : List (List (Option Piece))) → rest ≡ piece ∷ after
+pub next_put : (tables now : List (List (Option DecodedPiece))) (rest after : List DecodedPiece) (piece : DecodedPiece)
+    (all : List (List (Option DecodedPiece))) → rest ≡ piece ∷ after
     → now ≡ put_one tables piece → put_each tables rest ≡ all → put_each now after ≡ all
 next_put tables now rest after piece all next now_is h =
-    ap (λ (s : List (List (Option Piece))). put_each s after) now_is
-    ∙ ap (λ (ps : List Piece). put_each tables ps) (sym next) ∙ h
+    ap (λ (s : List (List (Option DecodedPiece))). put_each s after) now_is
+    ∙ ap (λ (ps : List DecodedPiece). put_each tables ps) (sym next) ∙ h
 
-pub next_places : (tables now : List (List (Option Piece))) (piece : Piece) (after : List Piece) → now ≡ put_one tables piece
+pub next_places : (tables now : List (List (Option DecodedPiece))) (piece : DecodedPiece) (after : List DecodedPiece)
+    → now ≡ put_one tables piece
     → AllByRecursion (HasPlaceIn (counts_of tables)) after → AllByRecursion (HasPlaceIn (counts_of now)) after
 next_places tables now piece after now_is all =
     subst (λ (counts : List ℕ). AllByRecursion (HasPlaceIn counts) after)

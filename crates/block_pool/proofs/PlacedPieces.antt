@@ -8,7 +8,7 @@ use mathlib.Core.Logic.{dite}
 use native.Mathlib.Decide.{ℕ_discrete}
 use Rattle.block_pool.specs.Pieces.{IsPieceOf}
 use Rattle.block_pool.specs.inside.PieceTables.{HasPlaceIn, counts_of, empty_table, put_each, put_one}
-use Rattle.block_pool.specs.declared.pieces.Piece.{Piece}
+use Rattle.block_pool.specs.declared.pieces.DecodedPiece.{DecodedPiece}
 use Rattle.block_pool.proofs.Members.{IsPlaced}
 use Rattle.history.proofs.Lists.{at_below}
 use Rattle.block_pool.proofs.Zips.{set_at, set_by, zip_at, zip_long, zip_set}
@@ -16,16 +16,16 @@ use Rattle.tp_layout.specs.declared.requests.RingRequest.{RingRequest}
 use Rattle.work_queue.specs.declared.works.Work.{Work}
 
 abbrev PieceTables : Type 0
-PieceTables = List (List (Option Piece))
+PieceTables = List (List (Option DecodedPiece))
 
 -- a place is empty, or has the piece of its work
-abbrev pub IsHeldAs : Bool → Work → Option Piece → Type 0
+abbrev pub IsHeldAs : Bool → Work → Option DecodedPiece → Type 0
 IsHeldAs dumps work None = ⊤
 IsHeldAs dumps work (Some piece) = IsPieceOf dumps work piece
 
 -- the place of a work has a piece
 pub record IsThere (tables : PieceTables) (work : Work) : Type 0 where
-  pub piece : Piece
+  pub piece : DecodedPiece
   pub is : get_or (get_or tables work.member []) (work.number - 1) None ≡ Some piece
 
 empty_held : (dumps : Bool) (works : List Work) → AllZip (IsHeldAs dumps) works (replicate (length works) None)
@@ -45,7 +45,7 @@ count_at (table ∷ tables) zero = refl
 count_at (table ∷ tables) (suc index) = count_at tables index
 
 -- a piece is put into the place of its number
-put_is : (tables : PieceTables) (piece : Piece) (index place : ℕ) → piece.member ≡ index → piece.number ≡ place + 1
+put_is : (tables : PieceTables) (piece : DecodedPiece) (index place : ℕ) → piece.member ≡ index → piece.number ≡ place + 1
     → put_one tables piece ≡ set tables index (set (get_or tables index []) place (Some piece))
 put_is tables piece index place member number =
     let at : piece.number - 1 ≡ place = omega (arith, number) in
@@ -54,7 +54,7 @@ put_is tables piece index place member number =
 
 module _ (dumps : Bool) (all : List (List Work)) (shape : RingRequest) where
   -- one piece, of a work of one of the members
-  module _ (work : Work) (is : IsPlaced all 0 shape work) (piece : Piece) (of : IsPieceOf dumps work piece) where
+  module _ (work : Work) (is : IsPlaced all 0 shape work) (piece : DecodedPiece) (of : IsPieceOf dumps work piece) where
     member : piece.member ≡ is.index
     member = let a = of.member_is in let b = is.member_is in omega (arith, a, b)
 
@@ -80,7 +80,7 @@ module _ (dumps : Bool) (all : List (List Work)) (shape : RingRequest) where
           let n = number in
           let below = index_below in
           let within = place_below in
-          let long = length-map tables (λ (table : List (Option Piece)). length table) in
+          let long = length-map tables (λ (table : List (Option DecodedPiece)). length table) in
           let count : get_or (counts_of tables) piece.member 0 ≡ length (get_or tables is.index []) =
           ap (λ (k : ℕ). get_or (counts_of tables) k 0) m ∙ count_at tables is.index in
           record {
@@ -110,7 +110,7 @@ module _ (dumps : Bool) (all : List (List Work)) (shape : RingRequest) where
                 (put_is tables piece is.index is.place member number)
                 ∙ ap (λ (k : ℕ). get_or (get_or new k []) (work.number - 1) None) m
                 ∙ ap (λ (k : ℕ). get_or (get_or new is.index []) k None) n
-                ∙ ap (λ (table : List (Option Piece)). get_or table is.place None)
+                ∙ ap (λ (table : List (Option DecodedPiece)). get_or table is.place None)
                 (set_at tables is.index (set (get_or tables is.index []) is.place (Some piece)) [] index_below)
                 ∙ set_at (get_or tables is.index []) is.place (Some piece) None place_below;
           }
@@ -118,8 +118,8 @@ module _ (dumps : Bool) (all : List (List Work)) (shape : RingRequest) where
       -- places that have a piece keep one
       put_keeps : (other : Work) → IsThere tables other → IsThere (put_one tables piece) other
       put_keeps other there =
-          let table : List (Option Piece) = get_or tables is.index [] in
-          let put : List (Option Piece) = set table is.place (Some piece) in
+          let table : List (Option DecodedPiece) = get_or tables is.index [] in
+          let put : List (Option DecodedPiece) = set table is.place (Some piece) in
           let new : PieceTables = set tables is.index put in
           let same_tables = put_is tables piece is.index is.place member number in
           let here : get_or new is.index [] ≡ put = set_at tables is.index put [] index_below in
@@ -129,23 +129,24 @@ module _ (dumps : Bool) (all : List (List Work)) (shape : RingRequest) where
           dite (ℕ_discrete (other.number - 1) is.place)
           (λ (n : other.number - 1 ≡ is.place). record {
             piece = piece;
-            is = ap (λ (s : List (Option Piece)). get_or s (other.number - 1) None) is_put
+            is = ap (λ (s : List (Option DecodedPiece)). get_or s (other.number - 1) None) is_put
                 ∙ ap (λ (k : ℕ). get_or put k None) n ∙ set_at table is.place (Some piece) None place_below;
           })
           (λ (n : ¬ (other.number - 1 ≡ is.place)). record {
             piece = there.piece;
-            is = ap (λ (s : List (Option Piece)). get_or s (other.number - 1) None) is_put
+            is = ap (λ (s : List (Option DecodedPiece)). get_or s (other.number - 1) None) is_put
                 ∙ set_by table is.place (other.number - 1) (Some piece) None n
                 ∙ ap (λ (k : ℕ). get_or (get_or tables k []) (other.number - 1) None) (sym m) ∙ there.is;
           }))
           (λ (m : ¬ (other.member ≡ is.index)). record {
             piece = there.piece;
-            is = ap (λ (s : List (Option Piece)). get_or s (other.number - 1) None)
+            is = ap (λ (s : List (Option DecodedPiece)). get_or s (other.number - 1) None)
                 (set_by tables is.index other.member put [] m) ∙ there.is;
           }))
 
   -- all pieces, of works of the members
-  pub all_fit : (works : List Work) (pieces : List Piece) (tables : PieceTables) → AllByRecursion (IsPlaced all 0 shape) works
+  pub all_fit : (works : List Work) (pieces : List DecodedPiece) (tables : PieceTables)
+      → AllByRecursion (IsPlaced all 0 shape) works
       → AllZip (IsPieceOf dumps) works pieces
       → AllZip (AllZip (IsHeldAs dumps)) all tables → AllByRecursion (HasPlaceIn (counts_of tables)) pieces
   all_fit [] [] tables placed of held = tt
@@ -154,7 +155,8 @@ module _ (dumps : Bool) (all : List (List Work)) (shape : RingRequest) where
   all_fit (work ∷ works) (piece ∷ pieces) tables placed of held =
       (fits work placed.0 piece of.0 tables held, all_fit works pieces tables placed.1 of.1 held)
 
-  pub all_held : (works : List Work) (pieces : List Piece) (tables : PieceTables) → AllByRecursion (IsPlaced all 0 shape) works
+  pub all_held : (works : List Work) (pieces : List DecodedPiece) (tables : PieceTables)
+      → AllByRecursion (IsPlaced all 0 shape) works
       → AllZip (IsPieceOf dumps) works pieces
       → AllZip (AllZip (IsHeldAs dumps)) all tables → AllZip (AllZip (IsHeldAs dumps)) all (put_each tables pieces)
   all_held [] [] tables placed of held = held
@@ -163,7 +165,8 @@ module _ (dumps : Bool) (all : List (List Work)) (shape : RingRequest) where
   all_held (work ∷ works) (piece ∷ pieces) tables placed of held =
       all_held works pieces (put_one tables piece) placed.1 of.1 (put_held work placed.0 piece of.0 tables held)
 
-  all_keep : (works : List Work) (pieces : List Piece) (tables : PieceTables) → AllByRecursion (IsPlaced all 0 shape) works
+  all_keep : (works : List Work) (pieces : List DecodedPiece) (tables : PieceTables)
+      → AllByRecursion (IsPlaced all 0 shape) works
       → AllZip (IsPieceOf dumps) works pieces
       → AllZip (AllZip (IsHeldAs dumps)) all tables → (other : Work) → IsThere tables other
       → IsThere (put_each tables pieces) other
@@ -174,7 +177,8 @@ module _ (dumps : Bool) (all : List (List Work)) (shape : RingRequest) where
       all_keep works pieces (put_one tables piece) placed.1 of.1 (put_held work placed.0 piece of.0 tables held) other
       (put_keeps work placed.0 piece of.0 tables held other there)
 
-  pub all_there : (works : List Work) (pieces : List Piece) (tables : PieceTables) → AllByRecursion (IsPlaced all 0 shape) works
+  pub all_there : (works : List Work) (pieces : List DecodedPiece) (tables : PieceTables)
+      → AllByRecursion (IsPlaced all 0 shape) works
       → AllZip (IsPieceOf dumps) works pieces
       → AllZip (AllZip (IsHeldAs dumps)) all tables → AllByRecursion (IsThere (put_each tables pieces)) works
   all_there [] [] tables placed of held = tt

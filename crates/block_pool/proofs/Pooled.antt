@@ -10,7 +10,7 @@ use Rattle.block_pool.specs.inside.PieceTables.{AreFull, HasPlaceIn, counts_of, 
 use Rattle.block_pool.specs.Takers.{AreNumbered, HandingValue, HasNumbered, first_takers, handing_base, handing_taken}
 use Rattle.block_pool.specs.Takers.{handing_value}
 use Rattle.block_pool.specs.Workers.{HasDecoded}
-use Rattle.block_pool.specs.declared.pieces.Piece.{Piece}
+use Rattle.block_pool.specs.declared.pieces.DecodedPiece.{DecodedPiece}
 use Rattle.block_pool.specs.declared.workers.PoolWorker.{PoolWorker}
 use Rattle.block_pool.proofs.Members.{AreMembers, IsPlaced, fetched_else, handed_of, numbered_at, passes_of, placed, was_handed}
 use Rattle.block_pool.proofs.PlacedPieces.{IsThere, all_empty, all_fit, all_held, all_there}
@@ -103,7 +103,7 @@ module _ (shape : RingRequest) where
 
   -- what is read from the members' tables is what their notes retired
   pub outputs_are : (dumps : Bool) (member : ℕ) (notes : List (List Note)) (first takers : List HandingValue)
-      (tables : List (List (Option Piece)))
+      (tables : List (List (Option DecodedPiece)))
       → AreTakersOf handing_base handing_taken shape notes first takers → AreMembers member shape takers
       → AllZip (AllZip (IsFilled dumps)) (handed_of takers) tables
       → AllZip (AreOutputsOf shape dumps) notes (map read_of tables)
@@ -133,7 +133,7 @@ worker_passes pool_workers = map (λ (pool_worker : PoolWorker). pool_worker.pas
 abbrev pub all_fetched : List PoolWorker → List Work
 all_fetched pool_workers = flat_map (λ (pool_worker : PoolWorker). pool_worker.pass.fetched) pool_workers
 
-abbrev pub all_pieces : List PoolWorker → List Piece
+abbrev pub all_pieces : List PoolWorker → List DecodedPiece
 all_pieces pool_workers = flat_map (λ (pool_worker : PoolWorker). pool_worker.pieces.items) pool_workers
 
 module _ (dumps : Bool) (queue : QueueValue) where
@@ -209,14 +209,14 @@ fetched_with work (pass ∷ passes) others was = inr (fetched_with work passes o
 -- ---- what is put together
 
 -- the empty tables of these works
-abbrev pub empty_for : List (List Work) → List (List (Option Piece))
+abbrev pub empty_for : List (List Work) → List (List (Option DecodedPiece))
 empty_for all = map (λ (ws : List Work). empty_table (length ws)) all
 
 module _ (shape : RingRequest) (dumps : Bool) (queue : QueueValue) (takers : List HandingValue) (before after : List PoolWorker)
     (left : List Work)
     (members : AreMembers 0 shape takers) (decoded : AllZip (HasDecoded dumps queue) before after)
     (full : AllByRecursion (λ (d : PoolWorker). d.full ≡ false) after)
-    (h : IsHistory (passes_of takers ++ worker_passes after) left) (more : List Piece)
+    (h : IsHistory (passes_of takers ++ worker_passes after) left) (more : List DecodedPiece)
     (decoded_left : AllZip (IsPieceOf dumps) left more) where
   of_works : AllZip (IsPieceOf dumps) (all_fetched after ++ left) (all_pieces after ++ more)
   of_works = zip_append (IsPieceOf dumps) (all_fetched after) left (all_pieces after) more

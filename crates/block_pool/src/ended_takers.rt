@@ -7,10 +7,10 @@ ghost use Rattle.block_pool.specs.inside.PieceTables.{put_each, read_of};
 ghost use Rattle.block_pool.specs.Takers.{HasNumbered};
 ghost use Rattle.work_queue.specs.Works.{IsLawfulWork};
 
-use crate::pieces::Piece;
+use crate::pieces::DecodedPiece;
 use crate::tables::{PieceTable, put_all, read_all};
-use crate::takers::Handing;
-use crate::workers::{Decoder, PoolWorker};
+use crate::takers::QueueTaker;
+use crate::workers::{PoolWorker, WorkDecoder};
 use cpu_feeders::Gate;
 use frame_view::Memory;
 use reader_walk::Outputs;
@@ -26,14 +26,14 @@ pub(crate) struct Parted {
     /// For each taker a table with a place for each of its works.
     pub(crate) tables: Vec<PieceTable>,
     /// The pieces of the workers.
-    pub(crate) pieces: Vec<Piece>,
+    pub(crate) pieces: Vec<DecodedPiece>,
 }
 
 /// Takes the takers of a run apart: their passes, and for each an empty table with a place for each
 /// of its works.
 fn part_takers<'a, R: Wait>(
     alloc: Global,
-    takers: Vec<Handing<'a, R>>,
+    takers: Vec<QueueTaker<'a, R>>,
     passes: &mut Vec<WorkPass>,
 ) -> Result<Vec<PieceTable>, Memory>
     ensures passes { OnOk result (passes.new.items
@@ -57,7 +57,7 @@ fn part_workers(
     alloc: Global,
     pool_workers: Vec<PoolWorker>,
     passes: &mut Vec<WorkPass>,
-) -> Result<Vec<Piece>, Memory>
+) -> Result<Vec<DecodedPiece>, Memory>
     ensures passes { OnOk result (passes.new.items
         ≡ passes.old.items ++ map (λ pool_worker. pool_worker.pass) pool_workers.items) }
     ensures pieces { IfOk result (λ pieces. pieces.items
@@ -81,7 +81,7 @@ fn part_workers(
 /// memory.
 pub(crate) fn part_all<'a, R: Wait>(
     alloc: Global,
-    takers: Vec<Handing<'a, R>>,
+    takers: Vec<QueueTaker<'a, R>>,
     pool_workers: Vec<PoolWorker>,
 ) -> Result<Parted, Memory>
     ensures passes { IfOk result (λ parted. parted.passes.items
@@ -107,10 +107,10 @@ pub(crate) fn part_all<'a, R: Wait>(
 
 /// Decodes the works that no worker fetched, and puts their pieces after the others.
 fn decode_left<G: Gate>(
-    decoder: &Decoder<G>,
+    decoder: &WorkDecoder<G>,
     index: u32,
     works: Vec<Work>,
-    pieces: &mut Vec<Piece>,
+    pieces: &mut Vec<DecodedPiece>,
 ) -> Result<(), Memory>
     requires lawful { AllByRecursion IsLawfulWork works.items }
     ensures { OnOk result ((more : _) × AllZip (IsPieceOf decoder.now.dumps) works.items more
@@ -124,11 +124,11 @@ fn decode_left<G: Gate>(
 
 /// Decodes the works that no worker fetched, puts all pieces into their places, and reads them out.
 pub(crate) fn put_together<G: Gate>(
-    decoder: &Decoder<G>,
+    decoder: &WorkDecoder<G>,
     index: u32,
     works: Vec<Work>,
     mut tables: Vec<PieceTable>,
-    mut pieces: Vec<Piece>,
+    mut pieces: Vec<DecodedPiece>,
 ) -> Result<Vec<Outputs>, Memory>
     requires lawful { AllByRecursion IsLawfulWork works.items }
     requires places { (more : List _) → AllZip (IsPieceOf decoder.now.dumps) works.items more

@@ -6,7 +6,7 @@ ghost use Rattle.block_pool.specs.Workers.{IsFreshWorker, IsFreshPassOf};
 ghost use Rattle.ticket_dealer.specs.Seats.{DealerValue, IsFreshOf};
 ghost use Rattle.work_queue.specs.Passes.{QueueValue};
 
-use crate::takers::Handing;
+use crate::takers::QueueTaker;
 use crate::workers::PoolWorker;
 use fanout_group::DealerSeat;
 use frame_view::Memory;
@@ -22,7 +22,7 @@ pub(crate) fn takers_of<'a, R: Wait>(
     queue: &'a WorkQueue,
     shape: &Shape,
     passes: Vec<WorkPass>,
-) -> Result<Vec<Handing<'a, R>>, Memory>
+) -> Result<Vec<QueueTaker<'a, R>>, Memory>
     requires few { length passes.items ≤ 8 }
     requires fresh { AllByRecursion (IsFreshPassOf queue.now) passes.items }
     ensures { IfOk result (λ takers. takers.items ≡ first_takers shape.now 0 passes.items) }
@@ -30,7 +30,7 @@ pub(crate) fn takers_of<'a, R: Wait>(
     let mut takers = Vec::with_capacity(alloc, passes.len())?;
     for pass in passes {
         let member = takers.len() as u32;
-        takers.push(Handing {
+        takers.push(QueueTaker {
             alloc,
             rt,
             queue,

@@ -13,7 +13,7 @@ use work_queue::Work;
 
 /// A work that was decoded.
 #[derive(Debug, Drop)]
-pub struct Piece {
+pub struct DecodedPiece {
     /// The number of its member, from 0.
     pub member: u32,
     /// Which of the member's blocks it is, from 1.
@@ -39,12 +39,12 @@ fn kept_text(alloc: Global, work: Work, dumps: bool) -> ByteList
 }
 
 /// Decodes a work, and keeps its text if it is asked to.
-pub(crate) fn piece_of(alloc: Global, work: Work, dumps: bool) -> Result<Piece, Memory>
+pub(crate) fn piece_of(alloc: Global, work: Work, dumps: bool) -> Result<DecodedPiece, Memory>
     requires lawful { IsLawfulWork work }
     ensures { IfOk result (IsPieceOf dumps work) }
 {
     let packets = decode(alloc, &work)?;
-    Ok(Piece {
+    Ok(DecodedPiece {
         member: work.member,
         number: work.number,
         packets,

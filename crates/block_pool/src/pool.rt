@@ -10,7 +10,7 @@ ghost use Rattle.work_queue.specs.Passes.{fresh_passes};
 use crate::ended_takers::{part_all, put_together};
 use crate::fresh_workers::{pool_workers_of, takers_of};
 use crate::pool_threads::run_both;
-use crate::workers::{Decoder, Pool};
+use crate::workers::{Pool, WorkDecoder};
 use cpu_feeders::{Gate, Workers, report_run};
 use fanout_group::{Dealer, DealerSeat};
 use frame_view::{Memory, MomentList};
@@ -86,7 +86,7 @@ pub fn run_pool<S: Source + Send, G: Gate + Sync, R: Threads + Wait + Sync>(
     let (queue, takers_passes, workers_passes) = queue_for(alloc, members, workers)?;
     let pool_workers = pool_workers_of(alloc, workers_passes, others)?;
     let takers = takers_of(rt, alloc, &queue, &job.setup.shape, takers_passes)?;
-    let decoder = Decoder {
+    let decoder = WorkDecoder {
         alloc,
         gate,
         dumps: job.setup.dump,

@@ -8,8 +8,8 @@ ghost use Rattle.cpu_feeders.specs.Feeds.{IsFreshSeat};
 ghost use Rattle.cpu_feeders.specs.Runs.{IsFreshTaker, IsTakerRun};
 ghost use Rattle.setup_text.specs.Sound.{AreMoments};
 
-use crate::takers::Handing;
-use crate::workers::{Decoder, Pool, PoolWorker, run_pool_worker};
+use crate::takers::QueueTaker;
+use crate::workers::{Pool, PoolWorker, WorkDecoder, run_pool_worker};
 use cpu_feeders::{Gate, Workers, run_takers};
 use fanout_group::DealerSeat;
 use frame_view::{Memory, MomentList};
@@ -72,9 +72,9 @@ fn take_all<'a, S: Source + Send, G: Gate + Sync, R: Threads + Wait + Sync>(
     job: &Job,
     sources: Vec<Option<S>>,
     ticks: &MomentList,
-    takers: Vec<Handing<'a, R>>,
+    takers: Vec<QueueTaker<'a, R>>,
     seat: DealerSeat,
-) -> Result<Workers<S, Handing<'a, R>>, Memory>
+) -> Result<Workers<S, QueueTaker<'a, R>>, Memory>
     requires sources { length sources.items ≡ length job.now.setup.cpus }
     requires moments { AreMoments ticks.now }
     requires takers { length takers.items ≡ job.now.setup.plan.members }
@@ -103,10 +103,13 @@ pub(crate) fn run_both<'a, S: Source + Send, G: Gate + Sync, R: Threads + Wait +
     job: &Job,
     sources: Vec<Option<S>>,
     ticks: &MomentList,
-    takers: Vec<Handing<'a, R>>,
+    takers: Vec<QueueTaker<'a, R>>,
     pool_workers: Vec<PoolWorker>,
     seat: DealerSeat,
-) -> (Vec<PoolWorker>, Result<Workers<S, Handing<'a, R>>, Memory>)
+) -> (
+    Vec<PoolWorker>,
+    Result<Workers<S, QueueTaker<'a, R>>, Memory>,
+)
     requires sources { length sources.items ≡ length job.now.setup.cpus }
     requires moments { AreMoments ticks.now }
     requires takers { length takers.items ≡ job.now.setup.plan.members }
@@ -132,7 +135,7 @@ pub(crate) fn run_both<'a, S: Source + Send, G: Gate + Sync, R: Threads + Wait +
                 × AllByRecursion (IsFreshWorker queue.now dealer.now) pool_workers.items }
             ensures { AllZip (HasDecoded dumps queue.entry.now) pool_workers.items result.items }
         {
-            let decoder = Decoder { alloc, gate, dumps };
+            let decoder = WorkDecoder { alloc, gate, dumps };
             let pool = Pool {
                 queue,
                 dealer,
@@ -140,7 +143,7 @@ pub(crate) fn run_both<'a, S: Source + Send, G: Gate + Sync, R: Threads + Wait +
             };
             serve(rt, &pool, pool_workers)
         },
-        move || -> Result<Workers<S, Handing<R>>, Memory>
+        move || -> Result<Workers<S, QueueTaker<R>>, Memory>
             requires { (length sources.items ≡ length job.now.setup.cpus)
                 × AreMoments ticks.now
                 × (length takers.items ≡ job.now.setup.plan.members)

@@ -4,7 +4,7 @@ ghost use Rattle.std.specs.List.{AllByRecursion};
 ghost use Rattle.block_pool.specs.inside.PieceTables.{AreFull, HasPlaceIn, IsFull, counts_of};
 ghost use Rattle.block_pool.specs.inside.PieceTables.{empty_table, put_each, read_of};
 
-use crate::pieces::Piece;
+use crate::pieces::DecodedPiece;
 use frame_view::{Memory, Packets};
 use reader_walk::{Dump, Outputs};
 use std::alloc::Global;
@@ -14,14 +14,14 @@ use std::marker::Model;
 #[derive(Drop)]
 pub(crate) struct PieceTable {
     /// The pieces, that of number 1 first.
-    places: Vec<Option<Piece>>,
+    places: Vec<Option<DecodedPiece>>,
 }
 
 impl Model for PieceTable {
     ghost use Rattle.std.specs.Prelude.{List, Option};
-    ghost use Rattle.block_pool.specs.declared.pieces.Piece.{Piece};
+    ghost use Rattle.block_pool.specs.declared.pieces.DecodedPiece.{DecodedPiece};
 
-    ghost Value = { List (Option Piece) };
+    ghost Value = { List (Option DecodedPiece) };
 
     ghost view = { λ table. table.places.items };
 }
@@ -39,7 +39,7 @@ impl PieceTable {
     }
 
     /// Puts a piece into a place.
-    fn put(&mut self, at: usize, piece: Piece)
+    fn put(&mut self, at: usize, piece: DecodedPiece)
         requires { at < length self.old }
         ensures { self.new ≡ slice_set self.old at (Some piece) }
     {
@@ -68,7 +68,7 @@ impl PieceTable {
 }
 
 /// Puts each piece into the place of its member and number.
-pub(crate) fn put_all(tables: &mut Vec<PieceTable>, pieces: Vec<Piece>)
+pub(crate) fn put_all(tables: &mut Vec<PieceTable>, pieces: Vec<DecodedPiece>)
     requires places { AllByRecursion (HasPlaceIn (counts_of tables.old.items)) pieces.items }
     ensures { tables.new.items ≡ put_each tables.old.items pieces.items }
 {

@@ -12,7 +12,7 @@ use work_queue::{Work, WorkPass, WorkQueue};
 
 /// A taker that copies the text of each block into a work, with its member and the next number.
 #[derive(Drop)]
-pub struct Handing<'a, R: Wait> {
+pub struct QueueTaker<'a, R: Wait> {
     /// Allocates the copies.
     pub(crate) alloc: Global,
     /// Ties the type to that of the runtime.
@@ -29,7 +29,7 @@ pub struct Handing<'a, R: Wait> {
     pub(crate) handed: u64,
 }
 
-impl<'a, R: Wait> Model for Handing<'a, R> {
+impl<'a, R: Wait> Model for QueueTaker<'a, R> {
     ghost use Rattle.block_pool.specs.Takers.{HandingValue};
 
     ghost Value = { HandingValue };
@@ -42,7 +42,7 @@ impl<'a, R: Wait> Model for Handing<'a, R> {
         IsHanding taker.queue.now taker.pass taker.member taker.shape taker.handed };
 }
 
-impl<'a, R: Wait> Handing<'a, R> {
+impl<'a, R: Wait> QueueTaker<'a, R> {
     /// Its pass, and how many works it has handed.
     pub(crate) fn into_parts(self) -> (WorkPass, u64)
         ensures pass { result.0 ≡ self.entry.pass }
@@ -53,7 +53,7 @@ impl<'a, R: Wait> Handing<'a, R> {
     }
 }
 
-impl<'a, R: Wait> Taker for Handing<'a, R> {
+impl<'a, R: Wait> Taker for QueueTaker<'a, R> {
     ghost use Rattle.block_pool.specs.Takers.{handing_base, works_taken};
 
     ghost base = { handing_base };

@@ -5,12 +5,13 @@ ghost use Rattle.block_pool.specs.Pieces.{IsPieceOf};
 ghost use Rattle.block_pool.specs.Workers.{HasDecoded, IsFreshWorker};
 ghost use Rattle.work_queue.specs.Works.{IsLawfulWork};
 
-use crate::pieces::{Piece, piece_of};
-use cpu_feeders::{Gate, Idler, Point};
+use crate::pieces::{DecodedPiece, piece_of};
+use cpu_feeders::{Gate, Point};
 use fanout_group::{Dealer, DealerSeat};
 use frame_view::Memory;
 use std::alloc::Global;
 use std::sync::Wait;
+use turn_lock::Backoff;
 use work_queue::{Work, WorkPass, WorkQueue};
 
 /// The most calls of `fetch` that a worker makes.
@@ -28,14 +29,14 @@ pub struct PoolWorker {
     /// How often it has called `fetch`.
     pub fetches: u64,
     /// What it has decoded, in the order in which it was fetched.
-    pub pieces: Vec<Piece>,
+    pub pieces: Vec<DecodedPiece>,
     /// Whether an allocation failed.
     pub full: bool,
 }
 
 /// What decodes works.
 #[derive(Drop)]
-pub(crate) struct Decoder<'a, G> {
+pub(crate) struct WorkDecoder<'a, G> {
     /// Allocates what is decoded.
     pub(crate) alloc: Global,
     /// Where a test may hold a thread.
@@ -44,12 +45,12 @@ pub(crate) struct Decoder<'a, G> {
     pub(crate) dumps: bool,
 }
 
-impl<'a, G: Gate> Decoder<'a, G> {
+impl<'a, G: Gate> WorkDecoder<'a, G> {
     /// Decodes a work for the worker of this number, and puts its piece after the others.
     pub(crate) fn keep(
         &self,
         worker: u32,
-        pieces: &mut Vec<Piece>,
+        pieces: &mut Vec<DecodedPiece>,
         work: Work,
     ) -> Result<(), Memory>
         requires lawful { IsLawfulWork work }
@@ -74,7 +75,7 @@ pub(crate) struct Pool<'a, G> {
     /// Knows whether the takers are still running.
     pub(crate) dealer: &'a Dealer,
     /// Decodes the works.
-    pub(crate) decoder: &'a Decoder<'a, G>,
+    pub(crate) decoder: &'a WorkDecoder<'a, G>,
 }
 
 /// Fetches works and decodes them. It ends if a poll found no work after the takers had ended, if
@@ -90,7 +91,7 @@ pub(crate) fn run_pool_worker<R: Wait, G: Gate>(
     ensures { HasDecoded pool.now.decoder.now.dumps pool.now.queue.now
         pool_worker.old pool_worker.new }
 {
-    let mut idler = Idler::new();
+    let mut backoff = Backoff::for_work();
     for _ in rt.forever() {
         if pool_worker.fetches >= MOST_FETCHES {
             return;
@@ -99,7 +100,7 @@ pub(crate) fn run_pool_worker<R: Wait, G: Gate>(
         pool_worker.fetches += 1;
         match pool.queue.fetch(rt, &mut pool_worker.pass) {
             Some(work) => {
-                idler.found();
+                backoff.found();
                 let pieces = &mut pool_worker.pieces;
                 let kept = pool.decoder.keep(pool_worker.index, pieces, work);
                 if kept.is_err() {
@@ -111,7 +112,7 @@ pub(crate) fn run_pool_worker<R: Wait, G: Gate>(
                 if live == 0 {
                     return;
                 }
-                idler.wait(rt);
+                backoff.wait(rt);
             }
         }
     }

@@ -17,7 +17,7 @@ pub(crate) const WORDS: usize = 16;
 
 /// Where an instruction leads.
 #[derive(Clone, Copy)]
-pub(crate) enum Next {
+pub(crate) enum Jump {
     /// The verdict is known.
     Answer(u32),
     /// The program goes on this many instructions after this one, at least one.
@@ -26,7 +26,7 @@ pub(crate) enum Next {
 
 /// The registers and the memory words.
 #[derive(Drop)]
-pub(crate) struct Machine {
+pub(crate) struct Registers {
     /// The accumulator A.
     a: u32,
     /// The index register X.
@@ -35,13 +35,13 @@ pub(crate) struct Machine {
     memory: [u32; WORDS],
 }
 
-impl Machine {
+impl Registers {
     /// The machine before the first instruction: every register and every word is 0. It is this
     /// project's own choice that words not written yet are 0.
-    pub(crate) fn new() -> Machine
+    pub(crate) fn new() -> Registers
         ensures { state_of result ≡ first_state }
     {
-        Machine {
+        Registers {
             a: 0,
             x: 0,
             memory: [0; WORDS],
@@ -51,7 +51,7 @@ impl Machine {
     /// Does one instruction, whose code is known.
     #[inline]
     #[tactic(auto, unfolding(crate::specs::Codes::codes))]
-    pub(crate) fn perform(&mut self, insn: &Insn, packet: &Seen<'_>) -> Next
+    pub(crate) fn perform(&mut self, insn: &Insn, packet: &Seen<'_>) -> Jump
         requires { IsRunnable insn.now }
         ensures next { next_of result self.new
             ≡ effect insn.now (facts_of packet.now) (state_of self.old) }
@@ -78,7 +78,7 @@ impl Machine {
             0x3c => self.load(a.checked_div(x)),
             0x94 => self.load(a.checked_rem(k)), // ALU MOD
             0x9c => self.load(a.checked_rem(x)),
-            0x05 => Next::Go(1 + k as usize), // JMP JA
+            0x05 => Jump::Go(1 + k as usize), // JMP JA
             0x15 => branch(a == k, insn), // JMP JEQ, by k and by X
             0x1d => branch(a == x, insn),
             0x25 => branch(a > k, insn), // JMP JGT
@@ -87,8 +87,8 @@ impl Machine {
             0x3d => branch(a >= x, insn),
             0x45 => branch(a & k != 0, insn), // JMP JSET
             0x4d => branch(a & x != 0, insn),
-            0x06 => Next::Answer(k), // RET K
-            0x16 => Next::Answer(a), // RET A
+            0x06 => Jump::Answer(k), // RET K
+            0x16 => Jump::Answer(a), // RET A
             _ => self.load(Some(self.calculated(insn))), // LD IMM, TXA, the rest of ALU
         }
     }
@@ -129,50 +129,50 @@ impl Machine {
 
     /// A takes a number. Without one the verdict is 0.
     #[inline]
-    fn load(&mut self, number: Option<u32>) -> Next
+    fn load(&mut self, number: Option<u32>) -> Jump
         ensures next { next_of result self.new ≡ load_a number (state_of self.old) }
         ensures further { GoesFurther result }
     {
         match number {
             Some(number) => self.a = number,
-            None => return Next::Answer(0),
+            None => return Jump::Answer(0),
         }
-        Next::Go(1)
+        Jump::Go(1)
     }
 
     /// X takes a number. Without one the verdict is 0.
     #[inline]
-    fn load_index(&mut self, number: Option<u32>) -> Next
+    fn load_index(&mut self, number: Option<u32>) -> Jump
         ensures next { next_of result self.new ≡ load_x number (state_of self.old) }
         ensures further { GoesFurther result }
     {
         match number {
             Some(number) => self.x = number,
-            None => return Next::Answer(0),
+            None => return Jump::Answer(0),
         }
-        Next::Go(1)
+        Jump::Go(1)
     }
 
     /// A memory word takes a number.
     #[inline]
-    fn store(&mut self, word: u32, number: u32) -> Next
+    fn store(&mut self, word: u32, number: u32) -> Jump
         requires { word < 16 }
         ensures next { next_of result self.new ≡ to_word word number (state_of self.old) }
         ensures further { GoesFurther result }
     {
         self.memory[word as usize] = number;
-        Next::Go(1)
+        Jump::Go(1)
     }
 }
 
 /// Where a test leads.
 #[inline]
-fn branch(holds: bool, insn: &Insn) -> Next
-    ensures next { (machine : Machine) → next_of result machine
+fn branch(holds: bool, insn: &Insn) -> Jump
+    ensures next { (machine : Registers) → next_of result machine
         ≡ GoesOn (if holds then insn.now.jt else insn.now.jf) (state_of machine) }
     ensures further { GoesFurther result }
 {
-    Next::Go(1 + usize::from(if holds { insn.jt } else { insn.jf }))
+    Jump::Go(1 + usize::from(if holds { insn.jt } else { insn.jf }))
 }
 
 /// A number shifted left. A shift by 32 or more gives 0.

@@ -10,7 +10,7 @@ ghost use Rattle.bpf_filter.specs.Verdict.{verdict_of, verdict_with};
 use crate::error::FilterError;
 use crate::insn::Insn;
 use crate::loads::is_ancillary;
-use crate::machine::{Machine, Next, WORDS};
+use crate::machine::{Jump, Registers, WORDS};
 use crate::packets::Seen;
 use std::alloc::Global;
 use std::marker::Model;
@@ -77,12 +77,12 @@ impl Program {
         ensures { result ≡ verdict_of self.now (facts_of packet.now) }
     {
         let code = self.code.as_slice();
-        let mut machine = Machine::new();
+        let mut machine = Registers::new();
         let mut at = 0;
         loop {
             match machine.perform(&code[at], packet) {
-                Next::Answer(answer) => return answer,
-                Next::Go(further) => at += further,
+                Jump::Answer(answer) => return answer,
+                Jump::Go(further) => at += further,
             }
         }
     }

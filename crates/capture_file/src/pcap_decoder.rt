@@ -9,11 +9,9 @@ use crate::CaptureError;
 use crate::record_reader::{Place, cut_front, read_on};
 use crate::stage::Stage;
 use frame_view::{Frames, Memory};
+use pcapng_blocks::LARGEST_CAPTURE;
 use std::alloc::Global;
 use std::marker::Model;
-
-/// The number of bytes of a capture that count.
-const LARGEST_CAPTURE: usize = 33_554_432;
 
 /// Reads a pcap capture of version 2.4 that is fed piece by piece, however it is cut. The limits
 /// are this project's own choice: the first 33,554,432 bytes count, and a record may have 262,144.

@@ -57,7 +57,7 @@ pub(crate) struct Progress {
 
 /// What the records of a capture are read with.
 #[derive(Clone, Copy)]
-pub(crate) struct Reader {
+pub(crate) struct RecordReader {
     /// Allocates a frame's bytes.
     pub alloc: Global,
     /// The CPU number that its frames carry.
@@ -92,7 +92,7 @@ pub(crate) fn read_on(
     match stage {
         Stage::Header => begin(alloc, cpu, kept, piece, into),
         Stage::Records(format) => {
-            let reader = Reader { alloc, cpu, format };
+            let reader = RecordReader { alloc, cpu, format };
             reader.go_on(next, kept, piece, into)
         }
         Stage::Damaged(_) => Ok(Progress {
@@ -129,7 +129,7 @@ fn begin(
     }
     match read_header(kept.as_slice()) {
         Ok(format) => {
-            let reader = Reader { alloc, cpu, format };
+            let reader = RecordReader { alloc, cpu, format };
             let next = Place {
                 stop: HEADER_SIZE,
                 index: 0,
@@ -144,7 +144,7 @@ fn begin(
     }
 }
 
-impl Reader {
+impl RecordReader {
     /// Reads on after the header: the record of which bytes are kept, and then those in the piece.
     fn go_on(
         self,

@@ -5,7 +5,7 @@ use Rattle.capture_file.specs.Capture.{frames_of}
 use Rattle.capture_file.specs.Decoders.{Represents}
 use Rattle.tap_outside.specs.Seen.{SourceSeen}
 use Rattle.capture_reading.specs.Sources.{GaveBy, GaveIfThere}
-use Rattle.capture_reading.specs.declared.so_far.SoFar.{SoFar}
+use Rattle.capture_reading.specs.declared.partial_capture.PartialCapture.{PartialCapture}
 use Rattle.capture_reading.specs.declared.whole.Reading.{Reading}
 
 -- a capture was read: what its source gave, and the frames of that
@@ -26,13 +26,15 @@ IsStillThere old new = ⊥
 
 -- some bytes of a source were read: the decoder represents them, and these are their frames and
 -- their number
-pub record IsSoFar (cpu : ℕ) (old new : SourceSeen) (so_far : SoFar) : Type 0 where
+pub record IsSoFar (cpu : ℕ) (old new : SourceSeen)
+    (partial_capture : PartialCapture) : Type 0 where
   pub bytes : List ℕ
-  pub represents : Represents cpu so_far.decoder bytes
-  pub frames_are : so_far.frames ≡ frames_of cpu bytes
-  pub given_is : so_far.given ≡ length bytes
-  pub gave : GaveBy old new bytes so_far.ended
+  pub represents : Represents cpu partial_capture.decoder bytes
+  pub frames_are : partial_capture.frames ≡ frames_of cpu bytes
+  pub given_is : partial_capture.given ≡ length bytes
+  pub gave : GaveBy old new bytes partial_capture.ended
 
 -- a bound on the bytes still to be read, which falls with each read
-abbrev pub unread : SoFar → ℕ
-unread so_far = if is_some so_far.ended then 0 else 33554433 - so_far.given
+abbrev pub unread : PartialCapture → ℕ
+unread partial_capture = if is_some partial_capture.ended then 0 else 33554433
+    - partial_capture.given

@@ -2,13 +2,10 @@
 ghost use Rattle.std.specs.Prelude.{◌≡◌, ◌≤◌, [], length, IfOk, OnErr, OnOk};
 ghost use Rattle.capture_reading.specs.Sources.{FailedToGive, GavePiece};
 
-use frame_view::Memory;
+use frame_view::{Memory, PIECE};
 use std::alloc::Global;
 use std::marker::Model;
 use tap_outside::{Failed, Source};
-
-/// The most bytes of a piece: this project's own choice.
-const PIECE: usize = 65_536;
 
 /// A buffer that holds a piece of a source. One serves any number of sources, one after another.
 /// Contracts see it as the bytes of the piece, at most 65,536.

@@ -3,8 +3,8 @@
 #![tactic(auto)]
 
 mod buffer;
+mod partial_capture;
 mod pieces;
-mod so_far;
 mod whole;
 
 pub use buffer::Buffer;

@@ -3,7 +3,7 @@ ghost use Rattle.std.specs.Prelude.{◌≡◌, Some, option_map, IfOk, OnErr};
 ghost use Rattle.capture_reading.specs.Wholes.{IsReading, IsStillThere};
 
 use crate::buffer::Buffer;
-use crate::so_far::SoFar;
+use crate::partial_capture::PartialCapture;
 use capture_file::{CpuEnd, an_empty_capture_has_no_frames, too_many_bytes_are_damage};
 use frame_view::{Frames, Memory};
 use std::alloc::Global;
@@ -54,16 +54,16 @@ fn read_source<S: Source>(alloc: Global, cpu: u32, source: &mut S) -> Result<Rea
 {
     too_many_bytes_are_damage();
     let mut buffer = Buffer::new(alloc)?;
-    let mut so_far = SoFar::new(alloc, cpu);
-    'reading: while so_far.ended.is_none() {
-        so_far.read_piece(source, &mut buffer)?;
+    let mut partial_capture = PartialCapture::new(alloc, cpu);
+    'reading: while partial_capture.ended.is_none() {
+        partial_capture.read_piece(source, &mut buffer)?;
     }
-    let Some(end) = so_far.ended else {
+    let Some(end) = partial_capture.ended else {
         unreachable!();
     };
     Ok(Reading {
-        frames: so_far.frames,
-        given: so_far.given,
+        frames: partial_capture.frames,
+        given: partial_capture.given,
         end,
     })
 }

@@ -4,8 +4,8 @@ use Rattle.std.specs.Prelude.{IfSome, slice_get}
 use Rattle.capture_file.specs.Laws.{IsNumbered}
 use Rattle.fanout_group.specs.Arrivals.{HasPlaceOf, IsArrival, arrival_at, held_behind}
 use Rattle.fanout_group.specs.Deliveries.{Received}
-use Rattle.fanout_group.specs.Judgements.{AgreesAt, Lens, rules_by}
-use Rattle.fanout_group.specs.Lenses.{lens_of}
+use Rattle.fanout_group.specs.Judgements.{AgreesAt, JudgeRules, rules_by}
+use Rattle.fanout_group.specs.RulesOfJudging.{judge_rules_of}
 use Rattle.fanout_group.specs.Paths.{IsPath, IsPathBehind, IsPathTo, Path}
 use Rattle.fanout_group.specs.Plans.{Shape, has_defrag}
 use Rattle.fanout_group.specs.declared.judgements.ArrivalRules.{ArrivalRules}
@@ -107,19 +107,19 @@ module _ {G : Type 0} (made : Offer → List Try → G → G → Type 0) (drew :
 -- the log is lawful over the frame too
 pub lawful_arrival : (rules : ArrivalRules) (old mid new : Feeding) (arrival : Frame) → IsSameCpu old mid
     → FeedsLawfully old (Some arrival) mid → arrival.cpu ≡ old.number → new ≡ record mid { path = new.path }
-    → ((lens : Lens) (frames : List Frame) → AgreesAt arrival.cpu lens (lens_of rules)
-    → IsPathTo (rules_by mid.path.shape lens) frames arrival mid.path
-    → IsPath (rules_by mid.path.shape lens) frames new.path)
-    → (lens : Lens) (all : List Frame) → AgreesAt old.number lens (lens_of rules) → IsAllOfCpu all new
-    → IsLawful (rules_by old.path.shape lens) all old → IsLawful (rules_by old.path.shape lens) all new
-lawful_arrival rules old mid new arrival same feeds here new_is receives lens all agrees whole lawful =
+    → ((judge : JudgeRules) (frames : List Frame) → AgreesAt arrival.cpu judge (judge_rules_of rules)
+    → IsPathTo (rules_by mid.path.shape judge) frames arrival mid.path
+    → IsPath (rules_by mid.path.shape judge) frames new.path)
+    → (judge : JudgeRules) (all : List Frame) → AgreesAt old.number judge (judge_rules_of rules) → IsAllOfCpu all new
+    → IsLawful (rules_by old.path.shape judge) all old → IsLawful (rules_by old.path.shape judge) all new
+lawful_arrival rules old mid new arrival same feeds here new_is receives judge all agrees whole lawful =
     let there : IsAllOfCpu all mid = subst (λ (cpu : Feeding). IsAllOfCpu all cpu) new_is whole in
     let count : mid.fed ≡ new.fed = sym (ap (λ (cpu : Feeding). cpu.fed) new_is) in
-    let by : Shape → Type 0 = λ shape. IsPath (rules_by shape lens) (take mid.fed all) new.path in
-    let to : IsPathBehind (rules_by old.path.shape lens) (take mid.fed all) (Some arrival) mid.path =
-    feeds (rules_by old.path.shape lens) all there lawful in
-    let now : IsPathTo (rules_by mid.path.shape lens) (take mid.fed all) arrival mid.path =
-    subst (λ (shape : Shape). IsPathTo (rules_by shape lens) (take mid.fed all) arrival mid.path) (sym same.shape) to in
+    let by : Shape → Type 0 = λ shape. IsPath (rules_by shape judge) (take mid.fed all) new.path in
+    let to : IsPathBehind (rules_by old.path.shape judge) (take mid.fed all) (Some arrival) mid.path =
+    feeds (rules_by old.path.shape judge) all there lawful in
+    let now : IsPathTo (rules_by mid.path.shape judge) (take mid.fed all) arrival mid.path =
+    subst (λ (shape : Shape). IsPathTo (rules_by shape judge) (take mid.fed all) arrival mid.path) (sym same.shape) to in
     let next : by mid.path.shape =
-    receives lens (take mid.fed all) (subst (λ (n : ℕ). AgreesAt n lens (lens_of rules)) (sym here) agrees) now in
-    subst (λ (n : ℕ). IsPath (rules_by old.path.shape lens) (take n all) new.path) count (subst by same.shape next)
+    receives judge (take mid.fed all) (subst (λ (n : ℕ). AgreesAt n judge (judge_rules_of rules)) (sym here) agrees) now in
+    subst (λ (n : ℕ). IsPath (rules_by old.path.shape judge) (take n all) new.path) count (subst by same.shape next)

@@ -13,8 +13,8 @@ ghost use Rattle.cpu_feed.specs.Feeds.{Feeds, GivesUp};
 ghost use Rattle.cpu_feed.specs.Lawful.{IsLawful};
 ghost use Rattle.fanout_group.specs.Deliveries.{TakesAllOf};
 ghost use Rattle.fanout_group.specs.Desks.{TakesTheSame};
-ghost use Rattle.fanout_group.specs.Judgements.{AgreesAt, Lens, rules_by};
-ghost use Rattle.fanout_group.specs.Lenses.{lens_of};
+ghost use Rattle.fanout_group.specs.Judgements.{AgreesAt, JudgeRules, rules_by};
+ghost use Rattle.fanout_group.specs.RulesOfJudging.{judge_rules_of};
 ghost use Rattle.fanout_group.specs.Paths.{IsPath, first_path};
 ghost use Rattle.fanout_group.specs.Rules.{Rules};
 ghost use Rattle.frame_view.specs.declared.frames.Frame.{Frame};
@@ -240,10 +240,10 @@ impl<S: Source> CpuFeed<S> {
             self.old.number }
         ensures fed { IfOk result (λ more. Feeds G.made G.drew rules.now more
             self.old self.new group.old group.new) }
-        ensures lawful { OnOk result ((lens : Lens) (all : List Frame)
-            → AgreesAt self.old.number lens (lens_of rules.now) → IsAllOfCpu all self.new
-            → IsLawful (rules_by self.old.path.shape lens) all self.old
-            → IsLawful (rules_by self.old.path.shape lens) all self.new) }
+        ensures lawful { OnOk result ((judge : JudgeRules) (all : List Frame)
+            → AgreesAt self.old.number judge (judge_rules_of rules.now) → IsAllOfCpu all self.new
+            → IsLawful (rules_by self.old.path.shape judge) all self.old
+            → IsLawful (rules_by self.old.path.shape judge) all self.new) }
         ensures waits { OnOk result (ReadsWhereNoneWaits self.old self.new) }
         ensures room { OnOk result ((n : ℕ) → G.room group.old (n + 9) → G.room group.new n) }
         ensures err { OnErr result (HasNotFailed self.old self.new) }

@@ -19,7 +19,7 @@ use Rattle.cpu_feeders.specs.inside.FreshWorkers.{IsFreshReader, IsMemberOf}
 use Rattle.cpu_feeders.specs.Runs.{AreTakersOf}
 use Rattle.cpu_feeders.specs.WorkerEffects.{IsWalkedOut}
 use Rattle.cpu_feeders.specs.declared.closed_members.Closed.{Closed}
-use Rattle.cpu_feeders.specs.declared.walker.Walker.{Walker}
+use Rattle.cpu_feeders.specs.declared.walker.ReaderThread.{ReaderThread}
 
 module _ {T : Type 0} where
   abbrev pub notes_in : Closed T → List Note
@@ -44,10 +44,10 @@ module _ {T : Type 0} where
   members_left (lock ∷ locks) (closed ∷ all) = one_left lock closed ∷ members_left locks all
 
   module _ (base_of : T → Base) (taken_by : T → List Taken) where
-    abbrev pub Over : List Lock → List (List Seat) → List (Walker T) → List (Closed T) → Type 0
+    abbrev pub Over : List Lock → List (List Seat) → List (ReaderThread T) → List (Closed T) → Type 0
     Over locks rows walkers all = AllClosedWith base_of taken_by locks rows walkers all
 
-    pub locks_are : (locks : List Lock) (rows : List (List Seat)) (walkers : List (Walker T)) (all : List (Closed T))
+    pub locks_are : (locks : List Lock) (rows : List (List Seat)) (walkers : List (ReaderThread T)) (all : List (Closed T))
         → Over locks rows walkers all
         → locks_of (members_left locks all) ≡ locks
     locks_are [] rows walkers all over = refl
@@ -57,7 +57,7 @@ module _ {T : Type 0} where
     locks_are (lock ∷ locks) (row ∷ rows) (walker ∷ walkers) (closed ∷ all) over =
         ap (λ (ls : List Lock). lock ∷ ls) (locks_are locks rows walkers all over.1)
 
-    pub notes_are : (locks : List Lock) (rows : List (List Seat)) (walkers : List (Walker T)) (all : List (Closed T))
+    pub notes_are : (locks : List Lock) (rows : List (List Seat)) (walkers : List (ReaderThread T)) (all : List (Closed T))
         → Over locks rows walkers all
         → notes_of_members (members_left locks all) ≡ map notes_in all
     notes_are [] [] [] [] over = refl
@@ -70,7 +70,7 @@ module _ {T : Type 0} where
     notes_are (lock ∷ locks) (row ∷ rows) (walker ∷ walkers) (closed ∷ all) over =
         ap (λ (ns : List (List Note)). closed.notes ∷ ns) (notes_are locks rows walkers all over.1)
 
-    pub rings_are : (locks : List Lock) (rows : List (List Seat)) (walkers : List (Walker T)) (all : List (Closed T))
+    pub rings_are : (locks : List Lock) (rows : List (List Seat)) (walkers : List (ReaderThread T)) (all : List (Closed T))
         → Over locks rows walkers all
         → rings_of (members_left locks all) ≡ map ring_in all
     rings_are [] [] [] [] over = refl
@@ -84,7 +84,7 @@ module _ {T : Type 0} where
         ap (λ (rs : List (Pends ShapedBytes)). closed.ring ∷ rs) (rings_are locks rows walkers all over.1)
 
     -- each member was closed over its seats
-    pub closed_over : (job : Job) (locks : List Lock) (rows : List (List Seat)) (walkers : List (Walker T))
+    pub closed_over : (job : Job) (locks : List Lock) (rows : List (List Seat)) (walkers : List (ReaderThread T))
         (all : List (Closed T))
         → Over locks rows walkers all → AllByRecursion (IsMemberOf job) locks
         → (member : ℕ) (row : List Seat) (none : MemberLeft)
@@ -101,7 +101,8 @@ module _ {T : Type 0} where
 
     module _ (dealer : DealerValue) (job : Job) where
       -- the readers' seats drew no ticket
-      pub seats_left : (locks : List Lock) (rows : List (List Seat)) (before walkers : List (Walker T)) (all : List (Closed T))
+      pub seats_left : (locks : List Lock) (rows : List (List Seat)) (before walkers : List (ReaderThread T))
+          (all : List (Closed T))
           → Over locks rows walkers all → AllZip (IsWalkedOut base_of taken_by dealer) before walkers
           → AllByRecursion (IsFreshOf dealer) (map seat_left all)
       seats_left [] [] before [] [] over outs = tt
@@ -117,7 +118,8 @@ module _ {T : Type 0} where
         seats_left locks rows before walkers all over.1 outs.1,
       )
 
-      pub seats_many : (locks : List Lock) (rows : List (List Seat)) (before walkers : List (Walker T)) (all : List (Closed T))
+      pub seats_many : (locks : List Lock) (rows : List (List Seat)) (before walkers : List (ReaderThread T))
+          (all : List (Closed T))
           → Over locks rows walkers all → AllZip (IsWalkedOut base_of taken_by dealer) before walkers
           → length (map seat_left all) ≡ length before
       seats_many [] [] [] [] [] over outs = refl
@@ -138,12 +140,13 @@ module _ {T : Type 0} where
           → map (λ (entry : Entry). taken_in job.setup.shape entry.0) ring.retired ≡ taken_of_notes job.setup.shape notes
 
       -- each taker comes back with its base, and has read all blocks
-      pub takers_left : (reads : ReadsNotes) (locks : List Lock) (rows : List (List Seat)) (before walkers : List (Walker T))
+      pub takers_left : (reads : ReadsNotes) (locks : List Lock) (rows : List (List Seat))
+          (before walkers : List (ReaderThread T))
           (all : List (Closed T))
           → Over locks rows walkers all → AllByRecursion (IsMemberOf job) locks
           → AllByRecursion (IsFreshReader base_of taken_by job.setup.shape dealer) before
           → AllZip (IsWalkedOut base_of taken_by dealer) before walkers
-          → AreTakersOf base_of taken_by job.setup.shape (map notes_in all) (map (λ (w : Walker T). w.taker) before)
+          → AreTakersOf base_of taken_by job.setup.shape (map notes_in all) (map (λ (w : ReaderThread T). w.taker) before)
           (map taker_left all)
       takers_left reads [] [] [] [] [] over members fresh outs = tt
       takers_left reads [] [] (o ∷ before) [] [] over members fresh outs = absurd outs
@@ -170,18 +173,20 @@ module _ {T : Type 0} where
 
     -- ---- a loop that closes one after another
 
-    pub closed_next : (locks lockss : List Lock) (rows rowss : List (List Seat)) (walkers rest : List (Walker T)) (lock : Lock)
+    pub closed_next : (locks lockss : List Lock) (rows rowss : List (List Seat)) (walkers rest : List (ReaderThread T))
+        (lock : Lock)
         (row : List Seat)
-        (walker : Walker T) (closed : Closed T) (more : List (Closed T)) → locks ≡ lock ∷ lockss → rows ≡ row ∷ rowss
+        (walker : ReaderThread T) (closed : Closed T) (more : List (Closed T)) → locks ≡ lock ∷ lockss → rows ≡ row ∷ rowss
         → walkers ≡ walker ∷ rest
         → IsClosedWith base_of taken_by lock row walker closed → Over lockss rowss rest more
         → Over locks rows walkers (closed ∷ more)
     closed_next locks lockss rows rowss walkers rest lock row walker closed more lock_is row_is walker_is one over =
         subst (λ (ls : List Lock). Over ls rows walkers (closed ∷ more)) (sym lock_is)
         (subst (λ (rs : List (List Seat)). Over (lock ∷ lockss) rs walkers (closed ∷ more)) (sym row_is)
-        (subst (λ (ws : List (Walker T)). Over (lock ∷ lockss) (row ∷ rowss) ws (closed ∷ more)) (sym walker_is) (one, over)))
+        (subst (λ (ws : List (ReaderThread T)). Over (lock ∷ lockss) (row ∷ rowss) ws (closed ∷ more)) (sym walker_is)
+        (one, over)))
 
-    pub at_end_long : (locks : List Lock) (rows : List (List Seat)) (walkers : List (Walker T))
+    pub at_end_long : (locks : List Lock) (rows : List (List Seat)) (walkers : List (ReaderThread T))
         → AllAtEnd base_of taken_by locks rows walkers
         → (length locks ≡ length walkers) × (length rows ≡ length walkers)
     at_end_long [] [] [] ends = (refl, refl)
@@ -193,22 +198,23 @@ module _ {T : Type 0} where
         let rest = at_end_long locks rows walkers ends.1 in (ap suc rest.0, ap suc rest.1)
 
     -- the first of each list, and the others
-    pub at_end_next : (locks lockss : List Lock) (rows rowss : List (List Seat)) (walkers rest : List (Walker T)) (lock : Lock)
+    pub at_end_next : (locks lockss : List Lock) (rows rowss : List (List Seat)) (walkers rest : List (ReaderThread T))
+        (lock : Lock)
         (row : List Seat)
-        (walker : Walker T) → locks ≡ lock ∷ lockss → rows ≡ row ∷ rowss → walkers ≡ walker ∷ rest
+        (walker : ReaderThread T) → locks ≡ lock ∷ lockss → rows ≡ row ∷ rowss → walkers ≡ walker ∷ rest
         → AllAtEnd base_of taken_by locks rows walkers
         → AreAtEnd base_of taken_by lock row walker × AllAtEnd base_of taken_by lockss rowss rest
     at_end_next locks lockss rows rowss walkers rest lock row walker lock_is row_is walker_is ends =
         let both : AllAtEnd base_of taken_by (lock ∷ lockss) (row ∷ rowss) (walker ∷ rest) =
-        subst (λ (ws : List (Walker T)). AllAtEnd base_of taken_by (lock ∷ lockss) (row ∷ rowss) ws) walker_is
+        subst (λ (ws : List (ReaderThread T)). AllAtEnd base_of taken_by (lock ∷ lockss) (row ∷ rowss) ws) walker_is
         (subst (λ (rs : List (List Seat)). AllAtEnd base_of taken_by (lock ∷ lockss) rs walkers) row_is
         (subst (λ (ls : List Lock). AllAtEnd base_of taken_by ls rows walkers) lock_is ends)) in
         (both.0, both.1)
 
-    pub none_closed : (locks : List Lock) (rows : List (List Seat)) (walkers : List (Walker T)) → locks ≡ [] → rows ≡ []
+    pub none_closed : (locks : List Lock) (rows : List (List Seat)) (walkers : List (ReaderThread T)) → locks ≡ [] → rows ≡ []
         → walkers ≡ []
         → Over locks rows walkers []
     none_closed locks rows walkers no_lock no_row no_walker =
         subst (λ (ls : List Lock). Over ls rows walkers []) (sym no_lock)
         (subst (λ (rs : List (List Seat)). Over [] rs walkers []) (sym no_row)
-        (subst (λ (ws : List (Walker T)). Over [] [] ws []) (sym no_walker) tt))
+        (subst (λ (ws : List (ReaderThread T)). Over [] [] ws []) (sym no_walker) tt))

@@ -19,7 +19,7 @@ use Rattle.cpu_feeders.specs.inside.MemberSeats.{with_all}
 use Rattle.cpu_feeders.specs.Walks.{Walks}
 use Rattle.cpu_feeders.specs.WorkerEffects.{IsWalkedOut}
 use Rattle.cpu_feeders.specs.declared.feeder.Feeder.{Feeder}
-use Rattle.cpu_feeders.specs.declared.walker.Walker.{Walker}
+use Rattle.cpu_feeders.specs.declared.walker.ReaderThread.{ReaderThread}
 use Rattle.cpu_feeders.proofs.FedFeeders.{Outs, idle_at, member_seats_in, member_seats_long}
 use Rattle.cpu_feeders.proofs.TimerTicks.{item}
 use Rattle.cpu_feeders.proofs.MemberSeatLists.{all_at, items_at, no_list, nothing, with_all_long}
@@ -125,13 +125,14 @@ module _ {S : Type 0} (job : Job) (dealer : DealerValue) (moments : List ℕ) (l
 
 module _ {T : Type 0} (base_of : T → Base) (taken_by : T → List Taken) where
   -- a reader of this member that has walked its ring
-  pub record IsBack (lock : Lock) (walker : Walker T) : Type 0 where
+  pub record IsBack (lock : Lock) (walker : ReaderThread T) : Type 0 where
     pub ring : table_numbers walker.end.id ≡ lock.base.table
     pub shape : (base_of walker.taker).shape ≡ lock.base.shape
     pub walks : Walks base_of taken_by (base_of walker.taker) walker
     pub full : walker.full ≡ false
 
-  pub all_at_end : (locks : List Lock) (rows : List (List Seat)) (walkers : List (Walker T)) → AllZip AreHandedIn locks rows
+  pub all_at_end : (locks : List Lock) (rows : List (List Seat)) (walkers : List (ReaderThread T))
+      → AllZip AreHandedIn locks rows
       → AllZip IsBack locks walkers → AllAtEnd base_of taken_by locks rows walkers
   all_at_end [] [] [] member_seats readers = tt
   all_at_end [] [] (walker ∷ walkers) member_seats readers = absurd readers
@@ -151,7 +152,7 @@ module _ {T : Type 0} (base_of : T → Base) (taken_by : T → List Taken) where
   )
 
   module _ (job : Job) (dealer : DealerValue) where
-    one_back : (lock : Lock) (old new : Walker T) → IsMemberOf job lock → IsReaderAt lock old
+    one_back : (lock : Lock) (old new : ReaderThread T) → IsMemberOf job lock → IsReaderAt lock old
         → IsFreshReader base_of taken_by job.setup.shape dealer old
         → IsWalkedOut base_of taken_by dealer old new → new.full ≡ false → IsBack lock new
     one_back lock old new member at fresh out free = record {
@@ -161,10 +162,11 @@ module _ {T : Type 0} (base_of : T → Base) (taken_by : T → List Taken) where
       full = free;
     }
 
-    pub all_back : (locks : List Lock) (before after : List (Walker T)) → AllByRecursion (IsMemberOf job) locks
+    pub all_back : (locks : List Lock) (before after : List (ReaderThread T)) → AllByRecursion (IsMemberOf job) locks
         → AllZip IsReaderAt locks before
         → AllByRecursion (IsFreshReader base_of taken_by job.setup.shape dealer) before
-        → AllZip (IsWalkedOut base_of taken_by dealer) before after → AllByRecursion (λ (w : Walker T). w.full ≡ false) after
+        → AllZip (IsWalkedOut base_of taken_by dealer) before after
+        → AllByRecursion (λ (w : ReaderThread T). w.full ≡ false) after
         → AllZip IsBack locks after
     all_back [] [] [] members at fresh outs free = tt
     all_back [] [] (n ∷ after) members at fresh outs free = absurd outs

@@ -34,7 +34,7 @@ use Rattle.cpu_feeders.specs.WorkerEffects.{IsDoneWorker, IsFedOut, IsWalkedOut}
 use Rattle.cpu_feeders.specs.declared.closed_members.Closed.{Closed}
 use Rattle.cpu_feeders.specs.declared.feeder.Feeder.{Feeder}
 use Rattle.cpu_feeders.specs.declared.timer.Timer.{Timer}
-use Rattle.cpu_feeders.specs.declared.walker.Walker.{Walker}
+use Rattle.cpu_feeders.specs.declared.walker.ReaderThread.{ReaderThread}
 use Rattle.cpu_feeders.specs.declared.worker.Worker.{Worker}
 use Rattle.cpu_feeders.proofs.AllClosed as closed
 use Rattle.history.proofs.Lists.{all_append}
@@ -89,13 +89,13 @@ module _ {S T : Type 0} {base_of : T → Base} {taken_by : T → List Taken} {jo
   abbrev pub feeders : List (Feeder S)
   feeders = flat_map feeder_in workers
 
-  abbrev pub walkers : List (Walker T)
+  abbrev pub walkers : List (ReaderThread T)
   walkers = flat_map walker_in workers
 
   abbrev pub old_feeders : List (Feeder S)
   old_feeders = worked.fresh_threads.feeders
 
-  abbrev pub old_walkers : List (Walker T)
+  abbrev pub old_walkers : List (ReaderThread T)
   old_walkers = worked.fresh_threads.walkers
 
   -- the workers are still in their order
@@ -110,7 +110,7 @@ module _ {S T : Type 0} {base_of : T → Base} {taken_by : T → List Taken} {jo
       subst (λ (ws : List (Worker S T)). order.AreByKind done.walkers (done.timer ∷ []) done.feeders ws) (sym done.workers_are)
       (order.by_kind done.walkers done.timer done.feeders)
 
-  had_memory : AllByRecursion (λ (w : Walker T). w.full ≡ false) done.walkers × (done.timer.full ≡ false)
+  had_memory : AllByRecursion (λ (w : ReaderThread T). w.full ≡ false) done.walkers × (done.timer.full ≡ false)
       × AllByRecursion (λ (f : Feeder S). f.full ≡ false) done.feeders
   had_memory = order.all_free done.walkers done.timer done.feeders
       (subst (λ (ws : List (Worker S T)). order.AreFree ws) done.workers_are free)
@@ -119,11 +119,12 @@ module _ {S T : Type 0} {base_of : T → Base} {taken_by : T → List Taken} {jo
   fed_out = subst (λ (fs : List (Feeder S)). AllZip (IsFedOut job locks dealer) old_feeders fs) (sym kinds.feeders_are) done.fed
 
   walked_out : AllZip (IsWalkedOut base_of taken_by dealer) old_walkers walkers
-  walked_out = subst (λ (ws : List (Walker T)). AllZip (IsWalkedOut base_of taken_by dealer) old_walkers ws)
+  walked_out = subst (λ (ws : List (ReaderThread T)). AllZip (IsWalkedOut base_of taken_by dealer) old_walkers ws)
       (sym kinds.walkers_are) done.walked
 
-  walkers_free : AllByRecursion (λ (w : Walker T). w.full ≡ false) walkers
-  walkers_free = subst (λ (ws : List (Walker T)). AllByRecursion (λ (w : Walker T). w.full ≡ false) ws) (sym kinds.walkers_are)
+  walkers_free : AllByRecursion (λ (w : ReaderThread T). w.full ≡ false) walkers
+  walkers_free = subst (λ (ws : List (ReaderThread T)). AllByRecursion (λ (w : ReaderThread T). w.full ≡ false) ws)
+      (sym kinds.walkers_are)
       had_memory.0
 
   outs : fed.Outs job locks dealer old_feeders feeders
@@ -180,10 +181,10 @@ module _ {S T : Type 0} {base_of : T → Base} {taken_by : T → List Taken} {jo
       ∙ ap (λ (ts : List Timer). with_all (replicate (length locks) [])
       (map fed.member_seats_in feeders ++ map timer_member_seats ts)) (timers_are ∙ kinds.timers_are)
 
-  pub at_end : {rows : List (List Seat)} {some_walkers : List (Walker T)} → rows ≡ all_rows → some_walkers ≡ walkers
+  pub at_end : {rows : List (List Seat)} {some_walkers : List (ReaderThread T)} → rows ≡ all_rows → some_walkers ≡ walkers
       → AllAtEnd base_of taken_by locks rows some_walkers
   at_end {rows = rows} rows_is walkers_are =
-      subst (λ (ws : List (Walker T)). AllAtEnd base_of taken_by locks rows ws) (sym walkers_are)
+      subst (λ (ws : List (ReaderThread T)). AllAtEnd base_of taken_by locks rows ws) (sym walkers_are)
       (subst (λ (rs : List (List Seat)). AllAtEnd base_of taken_by locks rs walkers) (sym rows_is)
       (all_at_end base_of taken_by locks all_rows walkers
       (all_handed_in job dealer moments locks old_feeders feeders timer.member_seats.items outs timed
@@ -204,14 +205,14 @@ module _ {S T : Type 0} {base_of : T → Base} {taken_by : T → List Taken} {jo
   all_seats all = (map fed.seat_in feeders ++ map closed.seat_left all) ++ spare
 
   -- what closed the members closed these, and the dealer is closed with these seats
-  pub closings : (all : List (Closed T)) {some_feeders : List (Feeder S)} {some_walkers : List (Walker T)}
+  pub closings : (all : List (Closed T)) {some_feeders : List (Feeder S)} {some_walkers : List (ReaderThread T)}
       {rows : List (List Seat)} {mine with_readers seats : List SeatValue} → rows ≡ all_rows → some_walkers ≡ walkers
       → AllClosedWith base_of taken_by locks rows some_walkers all → some_feeders ≡ feeders
       → mine ≡ map fed.seat_in some_feeders
       → with_readers ≡ mine ++ map closed.seat_left all → seats ≡ with_readers ++ spare
       → AllClosedWith base_of taken_by locks all_rows walkers all × (seats ≡ all_seats all)
   closings all {some_walkers = some_walkers} rows_is walkers_are over feeders_are mine_is readers_is is = (
-    subst (λ (ws : List (Walker T)). AllClosedWith base_of taken_by locks all_rows ws all) walkers_are
+    subst (λ (ws : List (ReaderThread T)). AllClosedWith base_of taken_by locks all_rows ws all) walkers_are
         (subst (λ (rs : List (List Seat)). AllClosedWith base_of taken_by locks rs some_walkers all) rows_is over),
     is ∙ ap (λ (ss : List SeatValue). ss ++ spare) readers_is
         ∙ ap (λ (ss : List SeatValue). (ss ++ map closed.seat_left all) ++ spare) mine_is

@@ -22,7 +22,7 @@ use Rattle.ticket_dealer.specs.contracts.dealer_seat.DealerSeat as DealerSeat
 use Rattle.tp_layout.specs.contracts.ring_blocks.Block as Block
 use Rattle.cpu_feeders.specs.contracts.feeder.Feeder as Feeder
 use Rattle.cpu_feeders.specs.contracts.timer.Timer as Timer
-use Rattle.cpu_feeders.specs.contracts.walker.Walker as Walker
+use Rattle.cpu_feeders.specs.contracts.walker.ReaderThread as ReaderThread
 use Rattle.cpu_feeders.specs.contracts.worker.Worker as Worker
 
 pub seat_send : IsSend DealerSeat.the_row
@@ -77,7 +77,7 @@ feed_send S g s = search (sendable, crosses, decoder_send, frame_send, path_send
 pub timer_send : IsSend (Timer.the_field).row
 timer_send = search (sendable, crosses, member_seat_send) depth 60 fits 20000
 
-pub walker_send : (T : RattleType) → IsSend T → IsSend (Walker.the_field T).row
+pub walker_send : (T : RattleType) → IsSend T → IsSend (ReaderThread.the_field T).row
 walker_send T t =
     search (
       sendable,

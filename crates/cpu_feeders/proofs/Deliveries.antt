@@ -7,8 +7,8 @@ use Rattle.capture_reports.specs.Tried.{IsDelivered}
 use Rattle.cpu_feed.specs.Feeds.{GivesUp}
 use Rattle.fanout_group.specs.Deliveries.{AreTriesOf, HasDrawn, Received}
 use Rattle.fanout_group.specs.Joined.{AreNotesOf, attempts_at, tickets_of}
-use Rattle.fanout_group.specs.Judgements.{AgreesAt, IsJudged, Lens, hash_by, verdict_by}
-use Rattle.fanout_group.specs.Lenses.{lens_of}
+use Rattle.fanout_group.specs.Judgements.{AgreesAt, IsJudged, JudgeRules, hash_by, verdict_by}
+use Rattle.fanout_group.specs.RulesOfJudging.{judge_rules_of}
 use Rattle.fanout_group.specs.Paths.{Path, logged}
 use Rattle.fanout_group.specs.Plans.{Shape}
 use Rattle.fanout_group.specs.Routes.{IsBegun, IsRoute}
@@ -48,7 +48,7 @@ offer_made false offer made e = cc
 abbrev pub offer_in : ℕ → Option (List ℕ) → ArrivalLog → Frame → Offer
 offer_in room address entry arrival = offer_of room address entry.hash entry.verdict arrival
 
-by_entry : (group : Lens) (room : ℕ) (arrival : Frame) (entry : ArrivalLog) (offer : Offer)
+by_entry : (group : JudgeRules) (room : ℕ) (arrival : Frame) (entry : ArrivalLog) (offer : Offer)
     → IsJudged group room arrival entry (Some offer)
     → offer ≡ offer_in room group.own entry arrival
 by_entry group room arrival entry offer judged =
@@ -97,7 +97,8 @@ module _ {R G : Type 0} where
   tries_keep Such shape ticket queue present (Some offer) tries before after is = (is.1.same, is.1.seat_is)
 
   -- and these are the tries of what the arrival offers
-  tries_are : (Such : Bool → ℕ → ℕ → List Try → Type 0) (shape : Shape) (ticket : Option ℕ) (queue present : ℕ) (group : Lens)
+  tries_are : (Such : Bool → ℕ → ℕ → List Try → Type 0) (shape : Shape) (ticket : Option ℕ) (queue present : ℕ)
+      (group : JudgeRules)
       (room : ℕ) (arrival : Frame) (entry : ArrivalLog)
       (made : Option Offer) (tries : List Try) (before after : TurnGroup R G) → IsJudged group room arrival entry made
       → AreTriesOf Such HasMade shape ticket queue present made tries before after
@@ -124,8 +125,8 @@ module _ {R G : Type 0} where
     pub tried : AreTried (offer_in room own entry arrival) entry.tries before.members.now before.member_seats.now.items
         after.member_seats.now.items
 
-  pub received : (group : Lens) (rules : ArrivalRules) (arrival : Frame) (old new : Path) (before after : TurnGroup R G)
-      → AgreesAt arrival.cpu group (lens_of rules)
+  pub received : (group : JudgeRules) (rules : ArrivalRules) (arrival : Frame) (old new : Path) (before after : TurnGroup R G)
+      → AgreesAt arrival.cpu group (judge_rules_of rules)
       → Received HasMade Draws rules arrival old new before after → IsReceived rules.room group.own arrival old new before after
   received group rules arrival old new before after agrees is =
       let judged = is.admitted.judged group agrees in

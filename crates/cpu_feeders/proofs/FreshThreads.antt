@@ -33,7 +33,7 @@ use Rattle.cpu_feeders.specs.Walks.{Walks, taken_of}
 use Rattle.cpu_feeders.specs.WorkerEffects.{IsReadyWorker}
 use Rattle.cpu_feeders.specs.declared.feeder.Feeder.{Feeder}
 use Rattle.cpu_feeders.specs.declared.timer.Timer.{Timer}
-use Rattle.cpu_feeders.specs.declared.walker.Walker.{Walker}
+use Rattle.cpu_feeders.specs.declared.walker.ReaderThread.{ReaderThread}
 use Rattle.cpu_feeders.specs.declared.worker.Worker.{Worker}
 use Rattle.cpu_feeders.specs.declared.worker.Worker.TheVariants as worker
 use Rattle.cpu_feeders.proofs.AtEnd.{at_place}
@@ -168,14 +168,14 @@ opened_members job (lock ∷ locks) (end ∷ ends) opened =
       (opened.0.first, rest.1),
     )
 
-abbrev pub end_in : {T : Type 0} → Walker T → Walking
+abbrev pub end_in : {T : Type 0} → ReaderThread T → Walking
 end_in walker = walker.end
 
-abbrev pub taker_in : {T : Type 0} → Walker T → T
+abbrev pub taker_in : {T : Type 0} → ReaderThread T → T
 taker_in walker = walker.taker
 
 module _ {T : Type 0} (base_of : T → Base) (taken_by : T → List Taken) (shape : RingRequest) (dealer : DealerValue) where
-  fresh_reader : (cpus : ℕ) (lock : Lock) (walker : Walker T) → IsOpened shape cpus lock walker.end
+  fresh_reader : (cpus : ℕ) (lock : Lock) (walker : ReaderThread T) → IsOpened shape cpus lock walker.end
       → IsFreshTaker base_of taken_by shape walker.taker
       → walker.released ≡ 0 → IsFreshOf dealer walker.seat → IsFreshReader base_of taken_by shape dealer walker
   fresh_reader cpus lock walker opened taker released seat =
@@ -192,11 +192,11 @@ module _ {T : Type 0} (base_of : T → Base) (taken_by : T → List Taken) (shap
         seat = seat;
       }
 
-  pub fresh_readers : (cpus : ℕ) (locks : List Lock) (walkers : List (Walker T))
+  pub fresh_readers : (cpus : ℕ) (locks : List Lock) (walkers : List (ReaderThread T))
       → AllZip (IsOpened shape cpus) locks (map end_in walkers)
       → AllByRecursion (IsFreshTaker base_of taken_by shape) (map taker_in walkers)
-      → AllByRecursion (λ (w : Walker T). (w.released ≡ 0) × (w.full ≡ false)) walkers
-      → AllByRecursion (λ (w : Walker T). IsFreshOf dealer w.seat) walkers
+      → AllByRecursion (λ (w : ReaderThread T). (w.released ≡ 0) × (w.full ≡ false)) walkers
+      → AllByRecursion (λ (w : ReaderThread T). IsFreshOf dealer w.seat) walkers
       → AllZip IsReaderAt locks walkers × AllByRecursion (IsFreshReader base_of taken_by shape dealer) walkers
   fresh_readers cpus [] [] opened takers fresh seats = (tt, tt)
   fresh_readers cpus [] (walker ∷ walkers) opened takers fresh seats = absurd opened
@@ -260,14 +260,15 @@ module _ (dealer : DealerValue) (feeders : ℕ) (count : dealer.feeders ≡ feed
 module _ {S T : Type 0} (base_of : T → Base) (taken_by : T → List Taken) (job : Job) (firsts : List (Option SourceSeen))
     (takers : List T)
     (locks : List Lock) (dealer : DealerValue) where
-  pub fresh_threads : (ends : List Walking) (users : List (List Seat)) (spare : List SeatValue) (walkers : List (Walker T))
+  pub fresh_threads : (ends : List Walking) (users : List (List Seat)) (spare : List SeatValue)
+      (walkers : List (ReaderThread T))
       (timer : Timer) (feeders : List (Feeder S))
       (workers : List (Worker S T)) → length firsts ≡ length job.setup.cpus → length locks ≡ job.setup.plan.members
       → AllZip (IsOpened job.setup.shape (length job.setup.cpus)) locks ends
       → AllByRecursion (IsFreshTaker base_of taken_by job.setup.shape) takers
       → map taker_in walkers ≡ takers → map end_in walkers ≡ ends
-      → AllByRecursion (λ (w : Walker T). (w.released ≡ 0) × (w.full ≡ false)) walkers
-      → AllByRecursion (λ (w : Walker T). IsFreshOf dealer w.seat) walkers
+      → AllByRecursion (λ (w : ReaderThread T). (w.released ≡ 0) × (w.full ≡ false)) walkers
+      → AllByRecursion (λ (w : ReaderThread T). IsFreshOf dealer w.seat) walkers
       → timer.member_seats.items ≡ fresh_member_seats locks (length job.setup.cpus)
       → users ≡ fresh_users locks 0 (length job.setup.cpus)
       → map feed_in feeders ≡ first_feeds job.setup.plan 0 firsts → map member_seats_in feeders ≡ users
@@ -308,9 +309,9 @@ module _ {S T : Type 0} (base_of : T → Base) (taken_by : T → List Taken) (jo
       }
 
 ready_reader : {T : Type 0} (base_of : T → Base) (taken_by : T → List Taken) (shape : RingRequest) (dealer : DealerValue)
-    (walkers : List (Walker T))
+    (walkers : List (ReaderThread T))
     → AllByRecursion (IsFreshReader base_of taken_by shape dealer) walkers
-    → AllByRecursion (λ (w : Walker T). Walks base_of taken_by (base_of w.taker) w × IsFreshOf dealer w.seat) walkers
+    → AllByRecursion (λ (w : ReaderThread T). Walks base_of taken_by (base_of w.taker) w × IsFreshOf dealer w.seat) walkers
 ready_reader base_of taken_by shape dealer [] fresh = tt
 ready_reader base_of taken_by shape dealer (walker ∷ walkers) fresh =
     ((fresh.0.walks, fresh.0.seat), ready_reader base_of taken_by shape dealer walkers fresh.1)
@@ -335,7 +336,7 @@ pub some_fresh_threads : {S T : Type 0} (base_of : T → Base) (taken_by : T →
     → AreFreshThreads base_of taken_by job firsts takers locks dealer spare workers → 0 < length workers
 some_fresh_threads {S = S} {T = T} base_of taken_by job firsts takers locks dealer spare workers threads =
     let many = ap (λ (ws : List (Worker S T)). length ws) threads.workers_are in
-    let walks : List (Worker S T) = map (λ (w : Walker T). worker.Walks w) threads.walkers in
+    let walks : List (Worker S T) = map (λ (w : ReaderThread T). worker.Walks w) threads.walkers in
     let others : List (Worker S T) = worker.Ticks threads.timer ∷ map (λ (f : Feeder S). worker.Feeds f) threads.feeders in
     let sum = length-append walks others in
     omega (arith, many, sum)

@@ -6,8 +6,8 @@ use Rattle.cpu_feed.specs.CpuFeeds.{Feeding, IsAllOfCpu, IsSameCpu, Takes}
 use Rattle.cpu_feed.specs.Feeds.{Feeds, ReceivesIfAny}
 use Rattle.cpu_feed.specs.Lawful.{IsLawful}
 use Rattle.fanout_group.specs.Deliveries.{TakesAllOf}
-use Rattle.fanout_group.specs.Judgements.{AgreesAt, Lens, rules_by}
-use Rattle.fanout_group.specs.Lenses.{lens_of}
+use Rattle.fanout_group.specs.Judgements.{AgreesAt, JudgeRules, rules_by}
+use Rattle.fanout_group.specs.RulesOfJudging.{judge_rules_of}
 use Rattle.fanout_group.specs.Paths.{Path, logged}
 use Rattle.fanout_group.specs.Plans.{Shape}
 use Rattle.fanout_group.specs.declared.judgements.ArrivalRules.{ArrivalRules}
@@ -61,9 +61,10 @@ pub record IsFedOut {R G : Type 0} (job : Job) (dealer : DealerValue) (old new :
 module _ {R G : Type 0} (job : Job) (dealer : DealerValue) (rules : ArrivalRules) (old new : Feeding)
     (before after : TurnGroup R G)
     (goes : GoesWith job old before) (drawing : IsDrawing dealer before.seat.now)
-    (agrees : AgreesAt old.number (jobs.lens_of job) (lens_of rules)) (room_is : rules.room ≡ room_of job.setup.shape)
-    (lawful : (lens : Lens) (all : List Frame) → AgreesAt old.number lens (lens_of rules) → IsAllOfCpu all new
-    → IsLawful (rules_by old.path.shape lens) all old → IsLawful (rules_by old.path.shape lens) all new)
+    (agrees : AgreesAt old.number (jobs.judge_rules_of job) (judge_rules_of rules))
+    (room_is : rules.room ≡ room_of job.setup.shape)
+    (lawful : (judge : JudgeRules) (all : List Frame) → AgreesAt old.number judge (judge_rules_of rules) → IsAllOfCpu all new
+    → IsLawful (rules_by old.path.shape judge) all old → IsLawful (rules_by old.path.shape judge) all new)
     (room : (turns : ℕ) → HasRoom before.member_seats.now.items (turns + 9) → HasRoom after.member_seats.now.items turns)
     (adds : DeliveryAdds) where
   abbrev Lawfully : Feeding → Type 0
@@ -72,9 +73,9 @@ module _ {R G : Type 0} (job : Job) (dealer : DealerValue) (rules : ArrivalRules
 
   lawfully : Lawfully new
   lawfully all whole =
-      subst (λ (shape : Shape). IsLawful (rules_by shape (jobs.lens_of job)) all old
-      → IsLawful (rules_by shape (jobs.lens_of job)) all new) goes.shape
-      (lawful (jobs.lens_of job) all agrees whole)
+      subst (λ (shape : Shape). IsLawful (rules_by shape (jobs.judge_rules_of job)) all old
+      → IsLawful (rules_by shape (jobs.judge_rules_of job)) all new) goes.shape
+      (lawful (jobs.judge_rules_of job) all agrees whole)
 
   -- what arrived was received, if anything did
   goes_behind : (mid : Feeding) (arrival : Option Frame) → IsSameCpu old mid
@@ -94,8 +95,8 @@ module _ {R G : Type 0} (job : Job) (dealer : DealerValue) (rules : ArrivalRules
         },
       ))
   goes_behind mid (Some frame) same takes fed is =
-      let came = received (jobs.lens_of job) rules frame mid.path new.path before after
-      (subst (λ (cpu : ℕ). AgreesAt cpu (jobs.lens_of job) (lens_of rules)) (sym (is.place ∙ same.number)) agrees)
+      let came = received (jobs.judge_rules_of job) rules frame mid.path new.path before after
+      (subst (λ (cpu : ℕ). AgreesAt cpu (jobs.judge_rules_of job) (judge_rules_of rules)) (sym (is.place ∙ same.number)) agrees)
       is.received in
       let next : Feeding = record mid { path = logged came.entry mid.path } in
       let next_is : new ≡ next = is.new_is ∙ ap (λ (path : Path). record mid { path = path }) came.new_is in

@@ -5,19 +5,19 @@ use Rattle.ring_words.specs.Rings.{Entry}
 use Rattle.ring_words.specs.TableEnds.{Walking}
 use Rattle.cpu_feeders.specs.inside.FreshWorkers.{AreNumbered}
 use Rattle.cpu_feeders.specs.Walks.{FreedMore}
-use Rattle.cpu_feeders.specs.declared.walker.Walker.{Walker}
+use Rattle.cpu_feeders.specs.declared.walker.ReaderThread.{ReaderThread}
 
 -- ---- readers
 
-one_after : {T : Type 0} (number : ℕ) (xs : List (Walker T)) (x : Walker T) → AreNumbered number xs
+one_after : {T : Type 0} (number : ℕ) (xs : List (ReaderThread T)) (x : ReaderThread T) → AreNumbered number xs
     → x.member ≡ number + length xs → AreNumbered number (xs ++ x ∷ [])
 one_after number [] x all one = (one ∙ omega arith, tt)
 one_after number (y ∷ xs) x all one = (all.0, one_after (number + 1) xs x all.1 (omega (arith, one)))
 
-pub numbered_more : {T : Type 0} (xs now : List (Walker T)) (x : Walker T) → now ≡ xs ++ x ∷ [] → AreNumbered 0 xs
+pub numbered_more : {T : Type 0} (xs now : List (ReaderThread T)) (x : ReaderThread T) → now ≡ xs ++ x ∷ [] → AreNumbered 0 xs
     → x.member ≡ length xs → AreNumbered 0 now
 numbered_more {T = T} xs now x is all one =
-    subst (λ (ys : List (Walker T)). AreNumbered 0 ys) (sym is) (one_after 0 xs x all (omega (arith, one)))
+    subst (λ (ys : List (ReaderThread T)). AreNumbered 0 ys) (sym is) (one_after 0 xs x all (omega (arith, one)))
 
 -- ---- blocks
 

@@ -10,7 +10,7 @@ use Rattle.cpu_feeders.specs.Timers.{TimesOut}
 use Rattle.cpu_feeders.specs.WorkerEffects.{IsDoneWorker, IsFedOut, IsReadyWorker, IsWalkedOut}
 use Rattle.cpu_feeders.specs.declared.feeder.Feeder.{Feeder}
 use Rattle.cpu_feeders.specs.declared.timer.Timer.{Timer}
-use Rattle.cpu_feeders.specs.declared.walker.Walker.{Walker}
+use Rattle.cpu_feeders.specs.declared.walker.ReaderThread.{ReaderThread}
 use Rattle.cpu_feeders.specs.declared.worker.Worker.{Worker}
 use Rattle.cpu_feeders.specs.declared.worker.Worker.TheVariants.{Walks, Ticks, Feeds}
 use Rattle.member_turns.specs.Seats.{Lock}
@@ -30,7 +30,7 @@ free_feeders T (feeder ∷ feeders) all = (all.0, free_feeders T feeders all.1)
 
 module _ {S T : Type 0} where
   -- these are the workers of each kind
-  pub record AreByKind (walkers : List (Walker T)) (timers : List Timer) (feeders : List (Feeder S))
+  pub record AreByKind (walkers : List (ReaderThread T)) (timers : List Timer) (feeders : List (Feeder S))
       (workers : List (Worker S T)) : Type 0 where
     pub walkers_are : flat_map walker_in workers ≡ walkers
     pub timers_are : flat_map timer_in workers ≡ timers
@@ -46,7 +46,7 @@ module _ {S T : Type 0} where
         feeders_are = ap (λ (fs : List (Feeder S)). feeder ∷ fs) rest.feeders_are;
       }
 
-  pub by_kind : (walkers : List (Walker T)) (timer : Timer) (feeders : List (Feeder S))
+  pub by_kind : (walkers : List (ReaderThread T)) (timer : Timer) (feeders : List (Feeder S))
       → AreByKind walkers (timer ∷ []) feeders (in_order walkers timer feeders)
   by_kind [] timer feeders =
       let rest = feeders_alone feeders in
@@ -58,7 +58,7 @@ module _ {S T : Type 0} where
   by_kind (walker ∷ walkers) timer feeders =
       let rest = by_kind walkers timer feeders in
       record {
-        walkers_are = ap (λ (ws : List (Walker T)). walker ∷ ws) rest.walkers_are;
+        walkers_are = ap (λ (ws : List (ReaderThread T)). walker ∷ ws) rest.walkers_are;
         timers_are = rest.timers_are;
         feeders_are = rest.feeders_are;
       }
@@ -68,9 +68,9 @@ module _ {S T : Type 0} where
   abbrev pub AreFree : List (Worker S T) → Type 0
   AreFree workers = AllByRecursion (λ (w : Worker S T). is_full w ≡ false) workers
 
-  pub all_free : (walkers : List (Walker T)) (timer : Timer) (feeders : List (Feeder S))
+  pub all_free : (walkers : List (ReaderThread T)) (timer : Timer) (feeders : List (Feeder S))
       → AreFree (in_order walkers timer feeders)
-      → AllByRecursion (λ (w : Walker T). w.full ≡ false) walkers × (timer.full ≡ false)
+      → AllByRecursion (λ (w : ReaderThread T). w.full ≡ false) walkers × (timer.full ≡ false)
       × AllByRecursion (λ (f : Feeder S). f.full ≡ false) feeders
   all_free [] timer feeders all = (tt, all.0, free_feeders T feeders all.1)
   all_free (walker ∷ walkers) timer feeders all =
@@ -83,9 +83,10 @@ module _ {S T : Type 0} where
 
     -- ---- what all workers leave: workers in the same order
 
-    pub record AreDone (old_walkers : List (Walker T)) (old_feeders : List (Feeder S)) (workers : List (Worker S T)) : Type
+    pub record AreDone (old_walkers : List (ReaderThread T)) (old_feeders : List (Feeder S))
+        (workers : List (Worker S T)) : Type
         0 where
-      pub walkers : List (Walker T)
+      pub walkers : List (ReaderThread T)
       pub timer : Timer
       pub feeders : List (Feeder S)
       pub workers_are : workers ≡ in_order walkers timer feeders
@@ -104,7 +105,7 @@ module _ {S T : Type 0} where
         let rest = done_feeders old new all.1 in
         (n ∷ rest.0, ap (λ (ws : List (Worker S T)). Feeds n ∷ ws) rest.1, (all.0, rest.2))
 
-    pub all_done : (walkers : List (Walker T)) (timer : Timer) (feeders : List (Feeder S)) (new : List (Worker S T))
+    pub all_done : (walkers : List (ReaderThread T)) (timer : Timer) (feeders : List (Feeder S)) (new : List (Worker S T))
         → AllZip Done (in_order walkers timer feeders) new → AreDone walkers feeders new
     all_done [] timer feeders [] all = absurd all
     all_done [] timer feeders (Walks n ∷ new) all = absurd all.0
@@ -143,8 +144,9 @@ module _ {S T : Type 0} where
     ready_feeders [] all = tt
     ready_feeders (feeder ∷ feeders) all = (all.0, ready_feeders feeders all.1)
 
-    pub all_ready : (walkers : List (Walker T)) (timer : Timer) (feeders : List (Feeder S))
-        → AllByRecursion (λ (w : Walker T). IsReadyWorker {S = S} {T = T} base_of taken_by job locks dealer (Walks w)) walkers
+    pub all_ready : (walkers : List (ReaderThread T)) (timer : Timer) (feeders : List (Feeder S))
+        → AllByRecursion (λ (w : ReaderThread T). IsReadyWorker {S = S} {T = T} base_of taken_by job locks dealer (Walks w))
+        walkers
         → IsReadyWorker {S = S} {T = T} base_of taken_by job locks dealer (Ticks timer)
         → AllByRecursion (λ (f : Feeder S). IsReadyWorker {S = S} {T = T} base_of taken_by job locks dealer (Feeds f)) feeders
         → AllByRecursion (IsReadyWorker base_of taken_by job locks dealer) (in_order walkers timer feeders)

@@ -1,6 +1,6 @@
 -- What the reader of a member does.
 use Rattle.std.specs.Prelude.{◌≡◌, ◌++◌, false, List, length, map, replicate}
-use Rattle.cpu_feeders.specs.declared.walker.Walker.{Walker}
+use Rattle.cpu_feeders.specs.declared.walker.ReaderThread.{ReaderThread}
 use Rattle.reader_walk.specs.Takers.{Base}
 use Rattle.tp_layout.specs.Layouts.{Taken, taken_in}
 use Rattle.ring_words.specs.Rings.{Entry}
@@ -21,7 +21,7 @@ pub record FreedMore (before after : Walking) : Type 0 where
 module _ {T : Type 0} (base_of : T → Base) (taken_by : T → List Taken) where
   -- a reader with no block in hand: unless an allocation failed its taker has read all blocks that
   -- it took
-  pub record Walks (base : Base) (walker : Walker T) : Type 0 where
+  pub record Walks (base : Base) (walker : ReaderThread T) : Type 0 where
     pub base_is : base_of walker.taker ≡ base
     pub kind : walker.end.kind ≡ numbers_of base.shape
     pub hand : walker.end.in_hand ≡ false
@@ -29,7 +29,7 @@ module _ {T : Type 0} (base_of : T → Base) (taken_by : T → List Taken) where
     pub read : walker.full ≡ false → taken_by walker.taker ≡ taken_of base walker.end.taken
 
   -- the same reader after some blocks
-  pub record HasWalked (base : Base) (before after : Walker T) : Type 0 where
+  pub record HasWalked (base : Base) (before after : ReaderThread T) : Type 0 where
     pub walks : Walks base after
     pub member : after.member ≡ before.member
     pub ring : after.end.id ≡ before.end.id

@@ -5,7 +5,7 @@ use Rattle.cpu_feeders.specs.Feeds.{FeedsOut, HasEnded, IsFreshFeeder}
 use Rattle.cpu_feeders.specs.Timers.{TimesOut}
 use Rattle.cpu_feeders.specs.Walks.{HasWalked, Walks}
 use Rattle.cpu_feeders.specs.declared.feeder.Feeder.{Feeder}
-use Rattle.cpu_feeders.specs.declared.walker.Walker.{Walker}
+use Rattle.cpu_feeders.specs.declared.walker.ReaderThread.{ReaderThread}
 use Rattle.cpu_feeders.specs.declared.worker.Worker.{Worker}
 use Rattle.cpu_feeders.specs.declared.worker.Worker.TheVariants as worker
 use Rattle.member_turns.specs.Seats.{Lock}
@@ -16,7 +16,7 @@ use Rattle.ticket_dealer.specs.Seats.{DealerValue, IsFreshOf}
 
 -- what a reader leaves: it has walked, and has drawn no ticket
 pub record IsWalkedOut {T : Type 0} (base_of : T → Base) (taken_by : T → List Taken)
-    (dealer : DealerValue) (old new : Walker T) : Type 0 where
+    (dealer : DealerValue) (old new : ReaderThread T) : Type 0 where
   pub walked : HasWalked base_of taken_by (base_of old.taker) old new
   pub seat : IsFreshOf dealer new.seat
 

@@ -8,7 +8,7 @@ ghost use Rattle.tp_layout.specs.Requests.{numbers_of};
 
 use crate::list_ends::first_of;
 use crate::member_seats::SeatList;
-use crate::walker::Walker;
+use crate::walker::ReaderThread;
 use fanout_group::DealerSeat;
 use frame_view::Memory;
 use member_turns::{Member, MemberSeat, close_member};
@@ -54,7 +54,7 @@ fn close_one<T: Taker + Drop>(
     alloc: Global,
     member: Member,
     member_seats: Vec<MemberSeat>,
-    walker: Walker<T>,
+    walker: ReaderThread<T>,
 ) -> Result<Closed<T>, Memory>
     requires { AreAtEnd T.base T.taken member member_seats.items walker }
     ensures { IfOk result (λ closed.
@@ -76,7 +76,7 @@ pub(crate) fn close_group<T: Taker + Drop>(
     alloc: Global,
     members: Vec<Member>,
     member_seats: Vec<SeatList>,
-    walkers: Vec<Walker<T>>,
+    walkers: Vec<ReaderThread<T>>,
 ) -> Result<Vec<Closed<T>>, Memory>
     requires { AllAtEnd T.base T.taken members.items member_seats.items walkers.items }
     ensures { IfOk result (λ closed.

@@ -12,7 +12,7 @@ use crate::feeder::Feeder;
 use crate::list_ends::{first_of, last_of};
 use crate::member_seats::SeatList;
 use crate::timer::Timer;
-use crate::walker::Walker;
+use crate::walker::ReaderThread;
 use crate::worker::Worker;
 use capture_reading::Buffer;
 use cpu_feed::CpuFeed;
@@ -91,7 +91,7 @@ pub(crate) fn walkers_of<T: Taker + Drop>(
     takers: Vec<T>,
     ends: Vec<TableWalker<Block>>,
     seats: &mut Vec<DealerSeat>,
-) -> Result<Vec<Walker<T>>, Memory>
+) -> Result<Vec<ReaderThread<T>>, Memory>
     requires few { length takers.items ≤ 8 }
     requires ends { length ends.items ≡ length takers.items }
     requires seats { length takers.items ≤ length seats.old.items }
@@ -111,7 +111,7 @@ pub(crate) fn walkers_of<T: Taker + Drop>(
     let mut ends = VecDeque::from(ends);
     let mut walkers = Vec::with_capacity(alloc, takers.len())?;
     for taker in takers {
-        walkers.push(Walker {
+        walkers.push(ReaderThread {
             member: walkers.len() as u32,
             end: first_of(&mut ends),
             taker,
@@ -126,7 +126,7 @@ pub(crate) fn walkers_of<T: Taker + Drop>(
 /// Readers as workers.
 fn all_walking<S: Source, T: Taker + Drop>(
     alloc: Global,
-    walkers: Vec<Walker<T>>,
+    walkers: Vec<ReaderThread<T>>,
 ) -> Result<Vec<Worker<S, T>>, Memory>
     ensures { IfOk result (λ workers.
         workers.items ≡ map (λ walker. worker.Walks walker) walkers.items) }
@@ -156,7 +156,7 @@ fn all_feeding<S: Source, T: Taker + Drop>(
 /// The workers in the order in which they are run: readers, the timer, feeders.
 pub(crate) fn workers_of<S: Source, T: Taker + Drop>(
     alloc: Global,
-    walkers: Vec<Walker<T>>,
+    walkers: Vec<ReaderThread<T>>,
     timer: Timer,
     feeders: Vec<Feeder<S>>,
 ) -> Result<Vec<Worker<S, T>>, Memory>

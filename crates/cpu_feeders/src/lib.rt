@@ -6,7 +6,6 @@ mod ended_workers;
 mod feeder;
 mod fresh_workers;
 mod gate;
-mod idler;
 mod list_ends;
 mod member_seats;
 mod open_groups;
@@ -22,7 +21,6 @@ mod worker_kinds;
 mod workers;
 
 pub use gate::{Gate, NoGate, Point};
-pub use idler::Idler;
 pub use report::report_run;
 pub use takers::{Workers, run_takers};
 pub use workers::run_workers;

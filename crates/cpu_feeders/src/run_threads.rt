@@ -33,7 +33,7 @@ pub(crate) struct RunThreads<S: Source, T: Taker + Drop> {
 
 /// A dealer of which no worker has a seat yet.
 #[derive(Drop)]
-struct Dealt {
+struct FreshDealer {
     /// The dealer.
     dealer: Dealer,
     /// A seat for each feeder.
@@ -43,7 +43,7 @@ struct Dealt {
 }
 
 /// Makes a dealer for the feeders of `cpus` CPUs.
-fn deal(alloc: Global, cpus: usize) -> Result<Dealt, Memory>
+fn deal(alloc: Global, cpus: usize) -> Result<FreshDealer, Memory>
     requires some { 0 < cpus }
     requires few { cpus ≤ 8 }
     ensures { IfOk result (λ dealt.
@@ -51,7 +51,7 @@ fn deal(alloc: Global, cpus: usize) -> Result<Dealt, Memory>
 {
     let (dealer, mut seats) = Dealer::new(alloc, cpus as u32)?;
     let spare = seats.split_off(cpus)?;
-    Ok(Dealt {
+    Ok(FreshDealer {
         dealer,
         seats,
         spare,
@@ -65,7 +65,7 @@ fn threads_of<S: Source, T: Taker + Drop>(
     sources: Vec<Option<S>>,
     takers: Vec<T>,
     group: OpenGroup,
-    dealt: Dealt,
+    dealt: FreshDealer,
 ) -> Result<RunThreads<S, T>, Memory>
     requires sources { length sources.items ≡ length job.now.setup.cpus }
     requires takers { length takers.items ≡ job.now.setup.plan.members }

@@ -7,13 +7,14 @@ ghost use Rattle.tp_layout.specs.Layouts.{taken_in};
 ghost use Rattle.ticket_dealer.specs.Seats.{IsFreshOf};
 
 use crate::shared::Shared;
-use crate::{Gate, Idler, Point};
+use crate::{Gate, Point};
 use fanout_group::DealerSeat;
 use frame_view::Memory;
 use reader_walk::Taker;
 use ring_words::{TableWalker, WalkerEnd};
 use std::sync::Wait;
 use tp_layout::Block;
+use turn_lock::Backoff;
 
 /// The word of a block that is given back: it is the feeder's again (TP_STATUS_KERNEL of
 /// `linux/if_packet.h`).
@@ -21,7 +22,7 @@ const FREE: u32 = 0;
 
 /// A reader's thread.
 #[derive(Drop)]
-pub(crate) struct Walker<T: Taker + Drop> {
+pub(crate) struct ReaderThread<T: Taker + Drop> {
     /// The number of its member, from 0.
     pub(crate) member: u32,
     /// The reader's end of the member's ring.
@@ -58,7 +59,7 @@ fn read_block<T: Taker>(taker: &mut T, block: &Block, full: bool) -> bool
 
 /// Takes the next retired block, if there is one, hands it to the taker and releases it. It is
 /// released even if an allocation failed.
-fn take_next<T: Taker + Drop, G: Gate>(gate: &G, walker: &mut Walker<T>) -> bool
+fn take_next<T: Taker + Drop, G: Gate>(gate: &G, walker: &mut ReaderThread<T>) -> bool
     requires { Walks T.base T.taken (T.base walker.old.taker) walker.old }
     ensures walked { HasWalked T.base T.taken (T.base walker.old.taker) walker.old walker.new }
     ensures seat { walker.new.seat ≡ walker.old.seat }
@@ -80,11 +81,11 @@ fn take_next<T: Taker + Drop, G: Gate>(gate: &G, walker: &mut Walker<T>) -> bool
 /// Reads blocks until no feeder is live and no block waits, and gives each back as a free one.
 /// Feeders are counted before each poll, so that what they retired is seen. While no block waits
 /// the reader yields between its polls; later it sleeps until a block is retired, or as long as an
-/// idler does.
-pub(crate) fn run_walker<T: Taker + Drop, R: Wait, G: Gate>(
+/// `Backoff` says.
+pub(crate) fn run_reader<T: Taker + Drop, R: Wait, G: Gate>(
     rt: &R,
     shared: &Shared<G>,
-    walker: &mut Walker<T>,
+    walker: &mut ReaderThread<T>,
 )
     requires walks { Walks T.base T.taken (T.base walker.old.taker) walker.old }
     requires seat { IsFreshOf shared.now.dealer.now walker.old.seat }
@@ -95,16 +96,16 @@ pub(crate) fn run_walker<T: Taker + Drop, R: Wait, G: Gate>(
     ensures ended { walker.new.seat.live ≡ 0 }
     ensures none { FoundNone walker.new.end }
 {
-    let mut idler = Idler::new();
+    let mut backoff = Backoff::for_work();
     for _ in rt.forever() {
         let live = shared.dealer.live(&mut walker.seat);
         if take_next(shared.gate, walker) {
-            idler.found();
+            backoff.found();
         } else if live == 0 {
             return;
-        } else if !idler.yields() {
+        } else if !backoff.goes_on() {
             // The next block that is retired wakes it, but not the end of the last feeder.
-            let most = idler.pause();
+            let most = backoff.pause();
             walker.end.wait_for_block(rt, most);
         }
     }

@@ -8,7 +8,7 @@ use crate::Gate;
 use crate::feeder::{Feeder, run_feeder};
 use crate::shared::Shared;
 use crate::timer::{Timer, run_timer};
-use crate::walker::{Walker, run_walker};
+use crate::walker::{ReaderThread, run_reader};
 use reader_walk::Taker;
 use std::sync::Wait;
 use std::thread;
@@ -19,7 +19,7 @@ use tap_outside::Source;
 #[derive(Drop)]
 pub(crate) enum Worker<S: Source, T: Taker + Drop> {
     /// It reads a member's blocks.
-    Walks(Walker<T>),
+    Walks(ReaderThread<T>),
     /// It reports the moments.
     Ticks(Timer),
     /// It feeds a CPU.
@@ -53,7 +53,7 @@ fn work<S: Source, T: Taker + Drop, G: Gate, R: Wait>(
         shared.now.moments.now worker.old worker.new }
 {
     match worker {
-        Worker::Walks(walker) => run_walker(rt, shared, walker),
+        Worker::Walks(walker) => run_reader(rt, shared, walker),
         Worker::Ticks(timer) => run_timer(rt, shared, timer),
         Worker::Feeds(feeder) => run_feeder(rt, shared, feeder),
     }

@@ -5,7 +5,7 @@ ghost use Rattle.cpu_feeders.specs.inside.WorkerKinds.{feeder_in, is_full, timer
 
 use crate::feeder::Feeder;
 use crate::timer::Timer;
-use crate::walker::Walker;
+use crate::walker::ReaderThread;
 use crate::worker::Worker;
 use frame_view::Memory;
 use reader_walk::Taker;
@@ -16,7 +16,7 @@ use tap_outside::Source;
 #[derive(Drop)]
 pub(crate) struct WorkerKinds<S: Source, T: Taker + Drop> {
     /// The readers of the members, from 0 up.
-    pub(crate) walkers: Vec<Walker<T>>,
+    pub(crate) walkers: Vec<ReaderThread<T>>,
     /// The timer.
     pub(crate) timers: Vec<Timer>,
     /// The feeders of the CPUs, from 0 up.

@@ -2,7 +2,7 @@
 use capture_file::CpuEnd;
 use capture_reading::Buffer;
 use fanout_group::{ArrivalRules, Mode, Plan};
-use frame_deals::{ArrivalList, CpuDeal, Dealt, FileReading, deal};
+use frame_deals::{CpuDeal, Dealt, DealtList, FileReading, deal};
 use frame_view::{ByteList, Memory, MomentList};
 use std::alloc::Global;
 use std::process::Abort;
@@ -157,7 +157,7 @@ fn a_file_has_its_numbers(rt: HostRuntime) -> Result<(), Fail> {
 #[test]
 fn frames_last_too_long(rt: HostRuntime) -> Result<(), Fail> {
     let dealt = |end| Dealt {
-        members: Vec::<ArrivalList>::new(rt.alloc()),
+        members: Vec::<DealtList>::new(rt.alloc()),
         end,
     };
     assert!(rt; !dealt(4_294_967_295_000_000).lasts_too_long());

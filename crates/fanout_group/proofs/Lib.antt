@@ -8,6 +8,6 @@ pub mod HeldFacts
 pub mod ArrivalFacts
 pub mod LongerLogs
 pub mod Receptions
-pub mod LikeLenses
+pub mod LikeJudgeRules
 pub mod SoundArrivals
 pub mod RoundLaws

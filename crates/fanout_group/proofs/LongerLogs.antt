@@ -6,7 +6,7 @@ use Rattle.frame_view.specs.declared.frames.Frame.{Frame}
 use Rattle.ring_model.specs.Offers.{offer_of}
 use Rattle.ring_model.specs.declared.notes.Offer.{Offer}
 use Rattle.fanout_group.specs.Arrivals.{arrival_at, arrivals_from, arrivals_of, held_behind, held_from, somes}
-use Rattle.fanout_group.specs.Judgements.{IsJudged, Lens, hash_by, rules_by, verdict_by}
+use Rattle.fanout_group.specs.Judgements.{IsJudged, JudgeRules, hash_by, rules_by, verdict_by}
 use Rattle.fanout_group.specs.Logs.{IsEntry, IsLawfulFrom}
 use Rattle.fanout_group.specs.Paths.{HasLogged, IsPath, IsPathBehind, IsPathTo, Path, logged, present_from}
 use Rattle.fanout_group.specs.Plans.{Shape, has_defrag, rolls_over}
@@ -31,7 +31,7 @@ present_more mode present [] entry = refl
 present_more mode present (first ∷ log) entry = present_more mode (present_after mode present first.tries) log entry
 
 -- if the arrival's entry is lawful, so is the log with it
-pub logs_one : (shape : Shape) (group : Lens) (frames : List Frame) (arrival : Frame) (entry : ArrivalLog) (path : Path)
+pub logs_one : (shape : Shape) (group : JudgeRules) (frames : List Frame) (arrival : Frame) (entry : ArrivalLog) (path : Path)
     → path.shape ≡ shape
     → IsPathTo (rules_by shape group) frames arrival path → IsEntry (rules_by shape group) path.present arrival entry
     → IsPath (rules_by shape group) frames (logged entry path)
@@ -71,7 +71,7 @@ some_tries : (ended : Bool) (tries : List Try) (route : Type 0) → ended ≡ fa
 some_tries true tries route e way = cc
 some_tries false tries route e way = way
 
-pub passed_over : (shape : Shape) (group : Lens) (room present : ℕ) (arrival : Frame) (entry : ArrivalLog)
+pub passed_over : (shape : Shape) (group : JudgeRules) (room present : ℕ) (arrival : Frame) (entry : ArrivalLog)
     → HasTicket shape.mode entry.ticket
     → IsJudged group room arrival entry None → IsEntry (rules_by shape group) present arrival entry
 passed_over shape group room present arrival entry ticket judged =
@@ -84,7 +84,8 @@ passed_over shape group room present arrival entry ticket judged =
           (not_made (eqb (verdict_by group arrival) 0) _ judged.offer_is) refl;
     })
 
-pub delivered : (shape : Shape) (group : Lens) (room present queue : ℕ) (arrival : Frame) (entry : ArrivalLog) (offer : Offer)
+pub delivered : (shape : Shape) (group : JudgeRules) (room present queue : ℕ) (arrival : Frame) (entry : ArrivalLog)
+    (offer : Offer)
     (tries : List Try)
     → HasTicket shape.mode entry.ticket → group.queue arrival.cpu ≡ queue → IsJudged group room arrival entry (Some offer)
     → IsRoute (rolls_over shape) shape.members

@@ -6,9 +6,9 @@ use Rattle.frame_view.specs.declared.frames.Frame.{Frame}
 use Rattle.ring_model.specs.Offers.{offer_of}
 use Rattle.ring_model.specs.declared.notes.Offer.{Offer}
 use Rattle.fanout_group.specs.Deliveries.{AreTriesOf, HasDrawn, IsAdmitted, IsDelivery, IsGivenUp, Received, home_for}
-use Rattle.fanout_group.specs.Judgements.{AgreesAt, IsJudged, Lens, first_entry, hash_by, offer_by, offer_if}
+use Rattle.fanout_group.specs.Judgements.{AgreesAt, IsJudged, JudgeRules, first_entry, hash_by, offer_by, offer_if}
 use Rattle.fanout_group.specs.Judgements.{rules_by, verdict_by}
-use Rattle.fanout_group.specs.Lenses.{lens_of}
+use Rattle.fanout_group.specs.RulesOfJudging.{judge_rules_of}
 use Rattle.fanout_group.specs.Logs.{IsEntry}
 use Rattle.fanout_group.specs.Paths.{IsPath, IsPathTo, Path}
 use Rattle.fanout_group.specs.Plans.{Shape, rolls_over}
@@ -20,7 +20,7 @@ use Rattle.fanout_group.specs.declared.logs.Try.{Try}
 use Rattle.fanout_group.specs.declared.modes.Mode.{Mode}
 use Rattle.fanout_group.specs.declared.modes.Mode.TheVariants.{Cpu, Hash, Lb, Qm, Rollover}
 use Rattle.fanout_group.specs.inside.TryEffects.{AreListed}
-use Rattle.fanout_group.proofs.LikeLenses.{judged_alike}
+use Rattle.fanout_group.proofs.LikeJudgeRules.{judged_alike}
 use Rattle.fanout_group.proofs.LongerLogs.{delivered, logs_one, passed_over}
 use Rattle.fanout_group.proofs.RouteBounds.{present_after-route, present_of_route}
 
@@ -63,8 +63,9 @@ module _ {G : Type 0} (made : Offer → List Try → G → G → Type 0) (drew :
     (offer : Option Offer) where
   pub is_admitted : (shape : Shape) (mode : Mode) (ticket : Option ℕ) (before mid : G) → mode ≡ shape.mode
       → HasTicket mode ticket
-      → HasDrawn drew ticket before mid → entry ≡ first_entry (lens_of rules) arrival ticket
-      → ((group : Lens) → AgreesAt arrival.cpu group (lens_of rules) → IsJudged group rules.room arrival entry offer)
+      → HasDrawn drew ticket before mid → entry ≡ first_entry (judge_rules_of rules) arrival ticket
+      → ((group : JudgeRules) → AgreesAt arrival.cpu group (judge_rules_of rules)
+      → IsJudged group rules.room arrival entry offer)
       → IsAdmitted drew rules shape arrival entry offer before mid
   is_admitted shape mode ticket before mid mode_is has draws is judged =
       let same : ticket ≡ entry.ticket = sym (ap (λ (e : ArrivalLog). e.ticket) is) in
@@ -114,54 +115,56 @@ none_begun made none_made shape ticket queue present (Some offer) group =
 
 module _ {G : Type 0} (made : Offer → List Try → G → G → Type 0) (drew : ℕ → G → G → Type 0) (rules : ArrivalRules)
     (arrival : Frame) (old new : Path)
-    (before after : G) (received : Received made drew rules arrival old new before after) (lens : Lens)
-    (agrees : AgreesAt arrival.cpu lens (lens_of rules)) where
-  entry_by : (offer : Option Offer) → IsJudged lens rules.room arrival received.entry offer
+    (before after : G) (received : Received made drew rules arrival old new before after) (judge : JudgeRules)
+    (agrees : AgreesAt arrival.cpu judge (judge_rules_of rules)) where
+  entry_by : (offer : Option Offer) → IsJudged judge rules.room arrival received.entry offer
       → AreTriesOf IsRoute made old.shape received.entry.ticket rules.queue old.present offer received.tries received.mid after
-      → IsEntry (rules_by old.shape lens) old.present arrival (record received.entry { tries = received.tries })
+      → IsEntry (rules_by old.shape judge) old.present arrival (record received.entry { tries = received.tries })
   entry_by None judged tried =
-      subst (λ (tries : List Try). IsEntry (rules_by old.shape lens) old.present arrival
+      subst (λ (tries : List Try). IsEntry (rules_by old.shape judge) old.present arrival
       (record received.entry { tries = tries })) (sym tried.0)
-      (subst (λ (tries : List Try). IsEntry (rules_by old.shape lens) old.present arrival
+      (subst (λ (tries : List Try). IsEntry (rules_by old.shape judge) old.present arrival
       (record received.entry { tries = tries }))
       (ap (λ (e : ArrivalLog). e.tries) judged.entry_is)
-      (passed_over old.shape lens rules.room old.present arrival received.entry received.admitted.ticket judged))
+      (passed_over old.shape judge rules.room old.present arrival received.entry received.admitted.ticket judged))
   entry_by (Some offer) judged tried =
-      delivered old.shape lens rules.room old.present rules.queue arrival received.entry offer received.tries
+      delivered old.shape judge rules.room old.present rules.queue arrival received.entry offer received.tries
       received.admitted.ticket agrees.queue judged tried.0
 
-  pub stays_lawful : (frames : List Frame) → IsPathTo (rules_by old.shape lens) frames arrival old
-      → IsPath (rules_by old.shape lens) frames new
+  pub stays_lawful : (frames : List Frame) → IsPathTo (rules_by old.shape judge) frames arrival old
+      → IsPath (rules_by old.shape judge) frames new
   stays_lawful frames to =
-      subst (λ (path : Path). IsPath (rules_by old.shape lens) frames path) (sym received.new_is)
-      (logs_one old.shape lens frames arrival (record received.entry { tries = received.tries }) old refl to
-      (entry_by received.offer (received.admitted.judged lens agrees) received.tried))
+      subst (λ (path : Path). IsPath (rules_by old.shape judge) frames path) (sym received.new_is)
+      (logs_one old.shape judge frames arrival (record received.entry { tries = received.tries }) old refl to
+      (entry_by received.offer (received.admitted.judged judge agrees) received.tried))
 
 -- ---- what is judged of an arrival
 
-module _ (rules : ArrivalRules) (arrival : Frame) (hash verdict : ℕ) (hash_is : hash ≡ hash_by (option_copied rules.key) arrival)
-    (verdict_is : verdict ≡ verdict_by (lens_of rules) arrival) where
-  offers : offer_by (lens_of rules) rules.room arrival ≡ offer_if rules.room rules.own hash verdict arrival
+module _ (rules : ArrivalRules) (arrival : Frame) (hash verdict : ℕ)
+    (hash_is : hash ≡ hash_by (option_copied rules.key) arrival)
+    (verdict_is : verdict ≡ verdict_by (judge_rules_of rules) arrival) where
+  offers : offer_by (judge_rules_of rules) rules.room arrival ≡ offer_if rules.room rules.own hash verdict arrival
   offers =
-      ap (λ (h : ℕ). offer_if rules.room rules.own h (verdict_by (lens_of rules) arrival) arrival) (sym hash_is)
+      ap (λ (h : ℕ). offer_if rules.room rules.own h (verdict_by (judge_rules_of rules) arrival) arrival) (sym hash_is)
       ∙ ap (λ (v : ℕ). offer_if rules.room rules.own hash v arrival) (sym verdict_is)
 
-  pub offers_nothing : verdict ≡ 0 → offer_by (lens_of rules) rules.room arrival ≡ None
+  pub offers_nothing : verdict ≡ 0 → offer_by (judge_rules_of rules) rules.room arrival ≡ None
   offers_nothing none = offers ∙ ap (λ (v : ℕ). offer_if rules.room rules.own hash v arrival) none
 
   offers_it : (offer : Offer) → verdict ≢ 0 → offer ≡ offer_of rules.room rules.own hash verdict arrival
-      → offer_by (lens_of rules) rules.room arrival ≡ Some offer
+      → offer_by (judge_rules_of rules) rules.room arrival ≡ Some offer
   offers_it offer some is =
       offers
       ∙ ap (λ (b : Bool). cond b None (Some (offer_of rules.room rules.own hash verdict arrival))) (ne_eqb verdict 0 some)
       ∙ ap (λ (o : Offer). Some o) (sym is)
 
   entry_so : (ticket : Option ℕ) (tries : List Try)
-      → record (first_entry (lens_of rules) arrival ticket) { hash = hash; verdict = verdict; tries = tries }
-      ≡ record (first_entry (lens_of rules) arrival ticket) { tries = tries }
+      → record (first_entry (judge_rules_of rules) arrival ticket) { hash = hash; verdict = verdict; tries = tries }
+      ≡ record (first_entry (judge_rules_of rules) arrival ticket) { tries = tries }
   entry_so ticket tries =
-      ap (λ (h : ℕ). record (first_entry (lens_of rules) arrival ticket) { hash = h; verdict = verdict; tries = tries }) hash_is
-      ∙ ap (λ (v : ℕ). record (first_entry (lens_of rules) arrival ticket) { verdict = v; tries = tries }) verdict_is
+      ap (λ (h : ℕ). record (first_entry (judge_rules_of rules) arrival ticket) { hash = h; verdict = verdict; tries = tries })
+      hash_is
+      ∙ ap (λ (v : ℕ). record (first_entry (judge_rules_of rules) arrival ticket) { verdict = v; tries = tries }) verdict_is
 
   module _ {G : Type 0} (made : Offer → List Try → G → G → Type 0) (drew : ℕ → G → G → Type 0) (ticket : Option ℕ)
       (mid after : G) where
@@ -171,7 +174,7 @@ module _ (rules : ArrivalRules) (arrival : Frame) (hash verdict : ℕ) (hash_is 
         → verdict ≢ 0 → offer ≡ offer_of rules.room rules.own hash verdict arrival
         → home ≡ home_by shape.mode shape.members hash (unwrap_or ticket 0) arrival.cpu queue present
         → Such (rolls_over shape) shape.members home tries → made offer tries mid after
-        → AreTriesOf Such made shape ticket queue present (offer_by (lens_of rules) rules.room arrival) tries mid after
+        → AreTriesOf Such made shape ticket queue present (offer_by (judge_rules_of rules) rules.room arrival) tries mid after
     tries_from_home Such shape queue present home offer tries some is home_is such its =
         subst (λ (o : Option Offer). AreTriesOf Such made shape ticket queue present o tries mid after)
         (sym (offers_it offer some is)) (
@@ -182,14 +185,15 @@ module _ (rules : ArrivalRules) (arrival : Frame) (hash verdict : ℕ) (hash_is 
 
     module _ (old : Path) (before : G) (mode : Mode) (mode_is : mode ≡ old.shape.mode) (has : HasTicket mode ticket)
         (draws : HasDrawn drew ticket before mid) where
-      admitted : IsAdmitted drew rules old.shape arrival (first_entry (lens_of rules) arrival ticket)
-          (offer_by (lens_of rules) rules.room arrival) before mid
+      admitted : IsAdmitted drew rules old.shape arrival (first_entry (judge_rules_of rules) arrival ticket)
+          (offer_by (judge_rules_of rules) rules.room arrival) before mid
       admitted =
           is_admitted made drew rules arrival _ _ old.shape mode ticket before mid mode_is has draws refl
-          (λ group agree. judged_alike arrival group (lens_of rules) agree rules.room ticket _ _ refl refl)
+          (λ group agree. judged_alike arrival group (judge_rules_of rules) agree rules.room ticket _ _ refl refl)
 
       pub receives : (tries : List Try) (next : ℕ) (new : Path)
-          → AreTriesOf IsRoute made old.shape ticket rules.queue old.present (offer_by (lens_of rules) rules.room arrival)
+          → AreTriesOf IsRoute made old.shape ticket rules.queue old.present
+          (offer_by (judge_rules_of rules) rules.room arrival)
           tries mid after
           → next ≡ present_after old.shape.mode old.present tries
           → new ≡ record old {
@@ -205,11 +209,12 @@ module _ (rules : ArrivalRules) (arrival : Frame) (hash verdict : ℕ) (hash_is 
           → Received made drew rules arrival old new before after
       receives tries next new tried next_is new_is =
           is_received made drew rules arrival _ _ old before mid after admitted new next
-          (record (first_entry (lens_of rules) arrival ticket) { hash = hash; verdict = verdict; tries = tries })
+          (record (first_entry (judge_rules_of rules) arrival ticket) { hash = hash; verdict = verdict; tries = tries })
           tried (entry_so ticket tries) next_is new_is
 
       pub gives_up : (tries : List Try)
-          → AreTriesOf IsBegun made old.shape ticket rules.queue old.present (offer_by (lens_of rules) rules.room arrival)
+          → AreTriesOf IsBegun made old.shape ticket rules.queue old.present
+          (offer_by (judge_rules_of rules) rules.room arrival)
           tries mid after
           → IsGivenUp made drew rules arrival old before after
       gives_up tries tried = is_given_up made drew rules arrival _ _ old before mid after admitted tries tried

@@ -4,8 +4,8 @@ use Rattle.std.specs.Prelude.{◌≡◌, ℕ, ◌<◌, Bool, List, [], ◌++◌,
 use Rattle.frame_view.specs.declared.frames.Frame.{Frame}
 use Rattle.ring_model.specs.Offers.{IsSound}
 use Rattle.ring_model.specs.declared.notes.Offer.{Offer}
-use Rattle.fanout_group.specs.Judgements.{AgreesAt, IsJudged, Lens}
-use Rattle.fanout_group.specs.Lenses.{lens_of}
+use Rattle.fanout_group.specs.Judgements.{AgreesAt, IsJudged, JudgeRules}
+use Rattle.fanout_group.specs.RulesOfJudging.{judge_rules_of}
 use Rattle.fanout_group.specs.Paths.{Path, logged}
 use Rattle.fanout_group.specs.Plans.{Shape, rolls_over}
 use Rattle.fanout_group.specs.Routes.{IsBegun, IsRoute, present_after}
@@ -62,7 +62,7 @@ pub record IsAdmitted {G : Type 0} (drew : ℕ → G → G → Type 0) (rules : 
     : Type 0 where
   pub ticket : HasTicket shape.mode entry.ticket
   pub drawn : HasDrawn drew entry.ticket before after
-  pub judged : (group : Lens) → AgreesAt arrival.cpu group (lens_of rules)
+  pub judged : (group : JudgeRules) → AgreesAt arrival.cpu group (judge_rules_of rules)
       → IsJudged group rules.room arrival entry offer
 
 -- the tries of an arrival's offer, which are such tries from its home on, made the one group of the

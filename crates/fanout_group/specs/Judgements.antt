@@ -16,7 +16,7 @@ use Rattle.fanout_group.specs.declared.logs.ArrivalLog.{ArrivalLog}
 
 -- what a group judges its arrivals by: the key of the flow hash, the filter, the station's own
 -- address, and the receive queue of each CPU
-pub record Lens : Type 0 where
+pub record JudgeRules : Type 0 where
   pub key : Option (List ℕ)
   pub filter : Option (List Insn)
   pub own : Option (List ℕ)
@@ -28,40 +28,40 @@ hash_by None frame = 0
 hash_by (Some key) frame = hash_of key (flow_input (view_of frame.bytes))
 
 -- what the filter sees of an arrival
-abbrev pub facts_by : Lens → Frame → PacketFacts
-facts_by lens frame = record {
+abbrev pub facts_by : JudgeRules → Frame → PacketFacts
+facts_by judge frame = record {
   bytes = frame.bytes;
   wire = frame.wire;
   protocol = protocol_of frame.bytes;
-  pkttype = packet_type_of frame.bytes lens.own;
-  queue = lens.queue frame.cpu;
-  rxhash = hash_by lens.key frame;
+  pkttype = packet_type_of frame.bytes judge.own;
+  queue = judge.queue frame.cpu;
+  rxhash = hash_by judge.key frame;
   cpu = frame.cpu;
 }
 
 -- the verdict on an arrival
-abbrev pub verdict_by : Lens → Frame → ℕ
-verdict_by lens frame = verdict_with lens.filter (facts_by lens frame)
+abbrev pub verdict_by : JudgeRules → Frame → ℕ
+verdict_by judge frame = verdict_with judge.filter (facts_by judge frame)
 
 -- the rules of a group of some shape
-abbrev pub rules_by : Shape → Lens → Rules
-rules_by shape lens = record {
+abbrev pub rules_by : Shape → JudgeRules → Rules
+rules_by shape judge = record {
   members = shape.members;
   mode = shape.mode;
   backup = has_backup shape.flags;
-  queue = lens.queue;
-  own = lens.own;
-  hash = hash_by lens.key;
-  verdict = verdict_by lens;
+  queue = judge.queue;
+  own = judge.own;
+  hash = hash_by judge.key;
+  verdict = verdict_by judge;
 }
 
 -- the entry of an arrival before any try
-abbrev pub first_entry : Lens → Frame → Option ℕ → ArrivalLog
-first_entry lens frame ticket = record {
+abbrev pub first_entry : JudgeRules → Frame → Option ℕ → ArrivalLog
+first_entry judge frame ticket = record {
   index = frame.index;
   ticket = ticket;
-  hash = hash_by lens.key frame;
-  verdict = verdict_by lens frame;
+  hash = hash_by judge.key frame;
+  verdict = verdict_by judge frame;
   tries = [];
 }
 
@@ -71,19 +71,19 @@ abbrev pub offer_if : ℕ → Option (List ℕ) → ℕ → ℕ → Frame → Op
 offer_if room own hash verdict frame =
     if verdict == 0 then None else Some (offer_of room own hash verdict frame)
 
-abbrev pub offer_by : Lens → ℕ → Frame → Option Offer
-offer_by lens room frame =
-    offer_if room lens.own (hash_by lens.key frame) (verdict_by lens frame) frame
+abbrev pub offer_by : JudgeRules → ℕ → Frame → Option Offer
+offer_by judge room frame =
+    offer_if room judge.own (hash_by judge.key frame) (verdict_by judge frame) frame
 
--- the two lenses show the same for a CPU
-pub record AgreesAt (cpu : ℕ) (group lens : Lens) : Type 0 where
-  pub key : group.key ≡ lens.key
-  pub filter : group.filter ≡ lens.filter
-  pub own : group.own ≡ lens.own
-  pub queue : group.queue cpu ≡ lens.queue cpu
+-- the two judges show the same for a CPU
+pub record AgreesAt (cpu : ℕ) (group judge : JudgeRules) : Type 0 where
+  pub key : group.key ≡ judge.key
+  pub filter : group.filter ≡ judge.filter
+  pub own : group.own ≡ judge.own
+  pub queue : group.queue cpu ≡ judge.queue cpu
 
 -- an arrival is judged by the rules of its group: its entry, with no try yet, and its offer
-pub record IsJudged (group : Lens) (room : ℕ) (arrival : Frame) (entry : ArrivalLog)
+pub record IsJudged (group : JudgeRules) (room : ℕ) (arrival : Frame) (entry : ArrivalLog)
     (made : Option Offer) : Type 0 where
   pub entry_is : entry ≡ first_entry group arrival entry.ticket
   pub offer_is : made ≡ offer_by group room arrival

@@ -8,7 +8,7 @@ pub mod Joined
 pub mod Once
 pub mod Desks
 pub mod Judgements
-pub mod Lenses
+pub mod RulesOfJudging
 pub mod Paths
 pub mod Deliveries
 pub mod PathsInside

@@ -1,5 +1,6 @@
 //! Where the members of a group are given their packets.
-ghost use Rattle.std.specs.Prelude.{◌≡◌, ◌+◌, ◌≤◌, ℕ, List, [], ◌∷◌, ◌++◌, IfErr, IfOk, OnErr, OnOk};
+ghost use Rattle.std.specs.Prelude.{◌≡◌, ◌+◌, ◌≤◌, ℕ, List, [], ◌∷◌, ◌++◌, IfErr, IfOk, OnErr};
+ghost use Rattle.std.specs.Prelude.{OnOk};
 ghost use Rattle.fanout_group.specs.Desks.{HandsBack, TakesTheSame, fate_of_put, fate_of_try};
 ghost use Rattle.fanout_group.specs.Routes.{a_try};
 ghost use Rattle.fanout_group.specs.declared.logs.Try.{Try};

@@ -2,9 +2,10 @@
 //! it makes.
 ghost use Rattle.std.specs.Prelude.{◌≡◌, ◌≢◌, ◌<◌, ◌≤◌, IfSome, length, option_copied};
 ghost use Rattle.fanout_group.specs.Arrivals.{IsArrival};
-ghost use Rattle.fanout_group.specs.Judgements.{AgreesAt, IsJudged, Lens, first_entry, hash_by};
+ghost use Rattle.fanout_group.specs.Judgements.{AgreesAt, IsJudged, JudgeRules, first_entry};
+ghost use Rattle.fanout_group.specs.Judgements.{hash_by};
 ghost use Rattle.fanout_group.specs.Judgements.{offer_by, verdict_by};
-ghost use Rattle.fanout_group.specs.Lenses.{lens_of};
+ghost use Rattle.fanout_group.specs.RulesOfJudging.{judge_rules_of};
 ghost use Rattle.flow_hash.specs.FlowHash.{flow_input};
 ghost use Rattle.flow_hash.specs.Toeplitz.{hash_of};
 ghost use Rattle.frame_view.specs.Headers.{packet_type_of, view_of};
@@ -15,7 +16,7 @@ use crate::{ArrivalLog, TryList};
 use bpf_filter::{Program, Seen, verdict_with};
 use flow_hash::{Key, flow_hash};
 use frame_view::{Frame, link_header, pkttype, view};
-use ring_model::Offer;
+use ring_model::{Offer, PACKET_HEADER};
 use std::alloc::Global;
 
 /// The rules by which a group judges the arrivals of one CPU.
@@ -44,7 +45,7 @@ pub struct Judged {
 
 /// What a group finds of an arrival, before any member is chosen.
 #[derive(Clone, Copy)]
-pub(crate) struct Judgement {
+pub(crate) struct ArrivalJudgement {
     /// Its flow hash, 0 without a key.
     pub(crate) hash: u32,
     /// How many bytes the filter keeps at most; 0 refuses the arrival.
@@ -55,19 +56,16 @@ pub(crate) struct Judgement {
     pub(crate) pkttype: u8,
 }
 
-/// The bytes that a packet takes in a block beside its data and the padding.
-const HEADERS: u32 = 82;
-
 impl ArrivalRules<'_> {
     /// Judges an arrival of the CPU, with its ticket if it drew one: its flow hash, then the
     /// filter's verdict on it, then the offer that it makes. It takes no memory.
     pub fn judge(&self, alloc: Global, arrival: Frame, ticket: Option<u64>) -> Judged
         requires arrival { IsArrival arrival }
         requires room { 82 < self.now.room }
-        ensures entry { result.entry ≡ first_entry (lens_of self.now) arrival ticket }
-        ensures offer { result.offer ≡ offer_by (lens_of self.now) self.now.room arrival }
+        ensures entry { result.entry ≡ first_entry (judge_rules_of self.now) arrival ticket }
+        ensures offer { result.offer ≡ offer_by (judge_rules_of self.now) self.now.room arrival }
         ensures sound { IfSome result.offer (IsSound self.now.room) }
-        ensures judged { (group : Lens) → AgreesAt arrival.cpu group (lens_of self.now)
+        ensures judged { (group : JudgeRules) → AgreesAt arrival.cpu group (judge_rules_of self.now)
             → IsJudged group self.now.room arrival result.entry result.offer }
     {
         let judgement = self.judgement(&arrival);
@@ -90,11 +88,11 @@ impl ArrivalRules<'_> {
     /// many bytes as the least of its captured length, its verdict, and what a block has room for.
     /// Its caller hands the arrival on whole, and so it isn't inlined there.
     #[inline(never)]
-    pub(crate) fn judgement(&self, arrival: &Frame) -> Judgement
+    pub(crate) fn judgement(&self, arrival: &Frame) -> ArrivalJudgement
         requires arrival { IsArrival arrival.now }
         requires room { 82 < self.now.room }
         ensures hash { result.hash ≡ hash_by (option_copied self.now.key) arrival.now }
-        ensures verdict { result.verdict ≡ verdict_by (lens_of self.now) arrival.now }
+        ensures verdict { result.verdict ≡ verdict_by (judge_rules_of self.now) arrival.now }
         ensures snap { result.snap
             ≡ snap_of self.now.room (length arrival.now.bytes) result.verdict }
         ensures pkttype { result.pkttype ≡ packet_type_of arrival.now.bytes self.now.own }
@@ -103,8 +101,8 @@ impl ArrivalRules<'_> {
         let hash = self.hash(arrival);
         let verdict = self.verdict(arrival, pkttype, hash);
         let captured = arrival.bytes.len();
-        let most = (self.room - HEADERS) as usize;
-        Judgement {
+        let most = (self.room - PACKET_HEADER) as usize;
+        ArrivalJudgement {
             hash,
             verdict,
             snap: captured.min(verdict as usize).min(most) as u32,
@@ -113,7 +111,7 @@ impl ArrivalRules<'_> {
     }
 
     /// What an arrival that the filter passes offers to a member.
-    pub(crate) fn offer(&self, arrival: Frame, judgement: Judgement) -> Offer
+    pub(crate) fn offer(&self, arrival: Frame, judgement: ArrivalJudgement) -> Offer
         requires arrival { IsArrival arrival }
         requires room { 82 < self.now.room }
         requires passes { judgement.verdict ≢ 0 }
@@ -149,7 +147,7 @@ impl ArrivalRules<'_> {
         requires no_runt { 14 ≤ length arrival.now.bytes }
         requires pkttype { pkttype ≡ packet_type_of arrival.now.bytes self.now.own }
         requires hash { hash ≡ hash_by (option_copied self.now.key) arrival.now }
-        ensures { result ≡ verdict_by (lens_of self.now) arrival.now }
+        ensures { result ≡ verdict_by (judge_rules_of self.now) arrival.now }
     {
         let bytes = arrival.bytes.as_slice();
         let seen = Seen {

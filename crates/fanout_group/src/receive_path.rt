@@ -8,8 +8,8 @@ ghost use Rattle.fanout_group.specs.Arrivals.{held_after, held_behind, no_runt, 
 ghost use Rattle.fanout_group.specs.Deliveries.{HasDrawn, IsGivenUp, Received};
 ghost use Rattle.fanout_group.specs.Deliveries.{TakesAllOf};
 ghost use Rattle.fanout_group.specs.Desks.{TakesTheSame};
-ghost use Rattle.fanout_group.specs.Judgements.{AgreesAt, Lens, rules_by};
-ghost use Rattle.fanout_group.specs.Lenses.{lens_of};
+ghost use Rattle.fanout_group.specs.Judgements.{AgreesAt, JudgeRules, rules_by};
+ghost use Rattle.fanout_group.specs.RulesOfJudging.{judge_rules_of};
 ghost use Rattle.fanout_group.specs.Paths.{IsPath, IsPathBehind, IsPathTo, first_path};
 ghost use Rattle.fanout_group.specs.Plans.{has_defrag, rolls_over};
 ghost use Rattle.fanout_group.specs.Routes.{IsBegun, IsRoute, present_after};
@@ -21,14 +21,11 @@ ghost use Rattle.ip_defrag.specs.Fold.{pass};
 
 use crate::delivery::{deliver_from, home};
 use crate::{ArrivalList, ArrivalLog, ArrivalRules, Group, Mode, Plan, TryList};
-use frame_view::{Frame, Memory, untag};
+use frame_view::{Frame, LINK_HEADER, Memory, untag};
 use ip_defrag::Defrag;
 use ring_model::Offer;
 use std::alloc::Global;
 use std::marker::Model;
-
-/// The bytes of a link header; a frame with fewer isn't an arrival.
-const LINK_HEADER: usize = 14;
 
 /// The receive path of a CPU. Contracts see the fragments that it holds, the present member and the
 /// log so far.
@@ -125,10 +122,10 @@ impl ReceivePath {
             arrival.cpu }
         ensures received { OnOk result (Received G.made G.drew rules.now arrival
             self.old self.new group.old group.new) }
-        ensures lawful { OnOk result ((lens : Lens) (frames : List Frame)
-            → AgreesAt arrival.cpu lens (lens_of rules.now)
-            → IsPathTo (rules_by self.old.shape lens) frames arrival self.old
-            → IsPath (rules_by self.old.shape lens) frames self.new) }
+        ensures lawful { OnOk result ((judge : JudgeRules) (frames : List Frame)
+            → AgreesAt arrival.cpu judge (judge_rules_of rules.now)
+            → IsPathTo (rules_by self.old.shape judge) frames arrival self.old
+            → IsPath (rules_by self.old.shape judge) frames self.new) }
         ensures room { OnOk result ((n : ℕ) → G.room group.old (n + 9) → G.room group.new n) }
         ensures err { OnErr result (self.new ≡ self.old) }
         ensures given_up { OnErr result (IsGivenUp G.made G.drew rules.now arrival self.old

@@ -17,12 +17,12 @@ use std::slice;
 #[derive(Debug, Drop)]
 pub struct TryList {
     alloc: Global,
-    tries: Tries,
+    tries: TryPlaces,
 }
 
 /// Where the tries are. The list is boxed, so that an arrival's tries take 16 bytes of its log.
 #[derive(Debug, Drop)]
-enum Tries {
+enum TryPlaces {
     /// There are none.
     None,
     /// There is one, in place.
@@ -49,7 +49,7 @@ impl TryList {
     {
         TryList {
             alloc,
-            tries: Tries::None,
+            tries: TryPlaces::None,
         }
     }
 
@@ -79,9 +79,9 @@ impl TryList {
         ensures { result.now ≡ self.now }
     {
         match &self.tries {
-            Tries::None => &[],
-            Tries::One(made) => slice::from_ref(made),
-            Tries::Many(tries) => tries.as_slice(),
+            TryPlaces::None => &[],
+            TryPlaces::One(made) => slice::from_ref(made),
+            TryPlaces::Many(tries) => tries.as_slice(),
         }
     }
 
@@ -151,7 +151,7 @@ impl TryList {
         let made = put_once(desk, member, offer)?;
         Ok(TryList {
             alloc,
-            tries: Tries::One(made),
+            tries: TryPlaces::One(made),
         })
     }
 
@@ -179,7 +179,7 @@ impl TryList {
     }
 }
 
-impl Tries {
+impl TryPlaces {
     ghost use Rattle.fanout_group.specs.inside.TryForms.{HasRoom, tries_of};
 
     /// Makes room for another try. After `Memory` they are as before.
@@ -189,9 +189,9 @@ impl Tries {
         ensures room { OnOk result (HasRoom self.new) }
     {
         match self {
-            Tries::None => Ok(()),
-            Tries::One(_) => self.reserve_exact(alloc, 1),
-            Tries::Many(tries) => {
+            TryPlaces::None => Ok(()),
+            TryPlaces::One(_) => self.reserve_exact(alloc, 1),
+            TryPlaces::Many(tries) => {
                 tries.reserve(1)?;
                 Ok(())
             }
@@ -204,10 +204,10 @@ impl Tries {
         ensures room { OnOk result (0 < more → HasRoom self.new) }
     {
         match self {
-            Tries::None if more > 1 => *self = listed(alloc, &[], more)?,
-            Tries::One(made) if more > 0 => *self = listed(alloc, slice::from_ref(made), more)?,
-            Tries::Many(tries) => tries.reserve_exact(more)?,
-            Tries::None | Tries::One(_) => {}
+            TryPlaces::None if more > 1 => *self = listed(alloc, &[], more)?,
+            TryPlaces::One(made) if more > 0 => *self = listed(alloc, slice::from_ref(made), more)?,
+            TryPlaces::Many(tries) => tries.reserve_exact(more)?,
+            TryPlaces::None | TryPlaces::One(_) => {}
         }
         Ok(())
     }
@@ -219,21 +219,21 @@ impl Tries {
         ensures { tries_of self.new ≡ tries_of self.old ++ made ∷ [] }
     {
         match self {
-            Tries::None => *self = Tries::One(made),
-            Tries::One(_) => unreachable!(),
-            Tries::Many(tries) => tries.push_reserved(made),
+            TryPlaces::None => *self = TryPlaces::One(made),
+            TryPlaces::One(_) => unreachable!(),
+            TryPlaces::Many(tries) => tries.push_reserved(made),
         }
     }
 }
 
 /// Tries in memory of their own, with room for more.
-fn listed(alloc: Global, tries: &[Try], more: usize) -> Result<Tries, Memory>
+fn listed(alloc: Global, tries: &[Try], more: usize) -> Result<TryPlaces, Memory>
     ensures same { IfOk result (λ list. tries_of list ≡ tries.now) }
     ensures room { IfOk result (λ list. 0 < more → HasRoom list) }
 {
     let mut list = Vec::with_capacity(alloc, tries.len().saturating_add(more))?;
     list.extend_from_slice(tries)?;
-    Ok(Tries::Many(Box::new(alloc, list)?))
+    Ok(TryPlaces::Many(Box::new(alloc, list)?))
 }
 
 /// Gives an offer to a member of a desk, which keeps it or drops it: one try, which settles where

@@ -13,8 +13,8 @@ use Rattle.capture_file.specs.declared.error.CaptureError.{CaptureError}
 use Rattle.capture_reading.specs.Pieces.{Decodes, ended_by}
 use Rattle.capture_reading.specs.Sources.{FailedToGive, GaveBy, GavePiece, end_by}
 use Rattle.capture_reading.proofs.GivenBytes.{IsTheEnd, IsUncut, end_gives, fault_gives, is_small, piece_gives}
-use Rattle.fanout_group.specs.Judgements.{AgreesAt, Lens, rules_by}
-use Rattle.fanout_group.specs.Lenses.{lens_of}
+use Rattle.fanout_group.specs.Judgements.{AgreesAt, JudgeRules, rules_by}
+use Rattle.fanout_group.specs.RulesOfJudging.{judge_rules_of}
 use Rattle.fanout_group.specs.Plans.{Shape}
 use Rattle.fanout_group.specs.declared.judgements.ArrivalRules.{ArrivalRules}
 use Rattle.frame_view.specs.declared.frames.Frame.{Frame}
@@ -120,22 +120,22 @@ pub record TookPiece (rules : ArrivalRules) (more : List Frame) (deal next : Dea
   pub shape : next.shape ≡ deal.shape
   pub arrivals : deal.arrivals ≤ next.arrivals
   pub taken :
-      (lens : Lens) → AgreesAt deal.cpu lens (lens_of rules)
-      → next ≡ after_frames (rules_by deal.shape lens) rules.room more deal
+      (judge : JudgeRules) → AgreesAt deal.cpu judge (judge_rules_of rules)
+      → next ≡ after_frames (rules_by deal.shape judge) rules.room more deal
 
 took_more : (rules : ArrivalRules) (start deal next : Dealing) (bytes piece : List ℕ) (more : List Frame)
     → deal.cpu ≡ start.cpu → deal.shape ≡ start.shape → TookFrames rules bytes start deal
     → frames_of start.cpu (bytes ++ piece) ≡ frames_of start.cpu bytes ++ more
     → TookPiece rules more deal next → TookFrames rules (bytes ++ piece) start next
-took_more rules start deal next bytes piece more cpu shape before e one = λ lens agrees.
+took_more rules start deal next bytes piece more cpu shape before e one = λ judge agrees.
     let room : ℕ = rules.room in
-    let there = subst (λ (n : ℕ). AgreesAt n lens (lens_of rules)) (sym cpu) agrees in
-    let stepped : next ≡ after_frames (rules_by start.shape lens) room more deal =
-    subst (λ (s : Shape). next ≡ after_frames (rules_by s lens) room more deal) shape (one.taken lens there) in
+    let there = subst (λ (n : ℕ). AgreesAt n judge (judge_rules_of rules)) (sym cpu) agrees in
+    let stepped : next ≡ after_frames (rules_by start.shape judge) room more deal =
+    subst (λ (s : Shape). next ≡ after_frames (rules_by s judge) room more deal) shape (one.taken judge there) in
     stepped
-    ∙ ap (after_frames (rules_by start.shape lens) room more) (before lens agrees)
-    ∙ sym (after_both (rules_by start.shape lens) room (frames_of start.cpu bytes) more start)
-    ∙ ap (λ (frames : List Frame). after_frames (rules_by start.shape lens) room frames start) (sym e)
+    ∙ ap (after_frames (rules_by start.shape judge) room more) (before judge agrees)
+    ∙ sym (after_both (rules_by start.shape judge) room (frames_of start.cpu bytes) more start)
+    ∙ ap (λ (frames : List Frame). after_frames (rules_by start.shape judge) room frames start) (sym e)
 
 -- one more piece
 pub read_piece : (rules : ArrivalRules) (first old new : SourceSeen) (start deal next_deal : Dealing)
@@ -206,6 +206,6 @@ no_file rules start none = record {
   given = refl;
   frames = sym (ap length (none start.cpu));
   arrivals = omega arith;
-  took = λ lens agrees.
-      sym (ap (λ (frames : List Frame). after_frames (rules_by start.shape lens) rules.room frames start) (none start.cpu));
+  took = λ judge agrees.
+      sym (ap (λ (frames : List Frame). after_frames (rules_by start.shape judge) rules.room frames start) (none start.cpu));
 }

@@ -12,14 +12,14 @@ use Rattle.frame_deals.specs.inside.Merges.{AreAfter, AreFrom, IsFirst, dealt_al
 use Rattle.frame_deals.specs.inside.Merges.{IsDealtFrom, dealt_of, end_from, first_of, front_mark, ticket_behind, with_ticket}
 use Rattle.frame_deals.specs.declared.mark_queue.MarkedFrame.{MarkedFrame}
 use Rattle.frame_deals.specs.declared.merge.Merge.{Merge}
-use Rattle.frame_deals.specs.declared.merge.Next.{Next}
+use Rattle.frame_deals.specs.declared.merge.NextFrame.{NextFrame}
 use Rattle.frame_deals.proofs.LeftFeeds.{feeds_append, in_order_middle, latest_middle, left_all, length_middle, none_left}
 use Rattle.frame_deals.proofs.NextFrames.{rest_rises}
 use Rattle.reader_pace.specs.Timelines.{Timed, feed_at, in_order, latest}
 use Rattle.ring_sizes.specs.declared.paces.Arrival.{Arrival}
 
 -- the queue of the next frame
-pub queue_is : (first : ℕ) (queues : List (List MarkedFrame)) (next : Next) (h : IsFirst first queues next)
+pub queue_is : (first : ℕ) (queues : List (List MarkedFrame)) (next : NextFrame) (h : IsFirst first queues next)
     → slice_index_or queues next.cpu [] ≡ h.frame ∷ h.rest
 queue_is first queues next h =
     ap (λ (qs : List (List MarkedFrame)). slice_index_or qs next.cpu []) h.parts
@@ -27,13 +27,13 @@ queue_is first queues next h =
     ∙ get_or-append_seam h.before (h.frame ∷ h.rest) h.behind []
 
 -- there is such a CPU
-pub cpu_below : (first : ℕ) (queues : List (List MarkedFrame)) (next : Next) → IsFirst first queues next
+pub cpu_below : (first : ℕ) (queues : List (List MarkedFrame)) (next : NextFrame) → IsFirst first queues next
     → next.cpu < length queues
 cpu_below first queues next h =
     omega (arith, h.cpu_is, ap length h.parts, length-append h.before ((h.frame ∷ h.rest) ∷ h.behind))
 
 -- the queues after it
-pub queues_after : (first : ℕ) (queues : List (List MarkedFrame)) (next : Next) (h : IsFirst first queues next)
+pub queues_after : (first : ℕ) (queues : List (List MarkedFrame)) (next : NextFrame) (h : IsFirst first queues next)
     → slice_set queues next.cpu h.rest ≡ h.before ++ h.rest ∷ h.behind
 queues_after first queues next h =
     ap (λ (qs : List (List MarkedFrame)). slice_set qs next.cpu h.rest) h.parts
@@ -41,16 +41,16 @@ queues_after first queues next h =
     ∙ set-append_seam h.before (h.frame ∷ h.rest) h.behind h.rest
 
 -- the feeds of the lower CPUs, and those after the next one
-abbrev pub lower : {first : ℕ} {queues : List (List MarkedFrame)} {next : Next} → IsFirst first queues next → List Timed
+abbrev pub lower : {first : ℕ} {queues : List (List MarkedFrame)} {next : NextFrame} → IsFirst first queues next → List Timed
 lower {first} h = feeds_left first 0 h.before
 
-abbrev pub upper : {first : ℕ} {queues : List (List MarkedFrame)} {next : Next} → IsFirst first queues next → List Timed
+abbrev pub upper : {first : ℕ} {queues : List (List MarkedFrame)} {next : NextFrame} → IsFirst first queues next → List Timed
 upper {first} {queues} {next} h = feeds_left first next.cpu (h.rest ∷ h.behind)
 
-abbrev pub next_feed : ℕ → Next → MarkedFrame → Timed
+abbrev pub next_feed : ℕ → NextFrame → MarkedFrame → Timed
 next_feed first next frame = feed_at first next.cpu frame.time
 
-feeds_before : (first : ℕ) (queues : List (List MarkedFrame)) (next : Next) (h : IsFirst first queues next)
+feeds_before : (first : ℕ) (queues : List (List MarkedFrame)) (next : NextFrame) (h : IsFirst first queues next)
     → feeds_left first 0 queues ≡ lower h ++ next_feed first next h.frame ∷ upper h
 feeds_before first queues next h =
     ap (feeds_left first 0) h.parts
@@ -58,7 +58,7 @@ feeds_before first queues next h =
     ∙ ap (λ (n : ℕ). lower h ++ feeds_left first n ((h.frame ∷ h.rest) ∷ h.behind))
     (zero-add (length h.before) ∙ sym h.cpu_is)
 
-feeds_after : (first : ℕ) (queues : List (List MarkedFrame)) (next : Next) (h : IsFirst first queues next)
+feeds_after : (first : ℕ) (queues : List (List MarkedFrame)) (next : NextFrame) (h : IsFirst first queues next)
     → feeds_left first 0 (slice_set queues next.cpu h.rest) ≡ lower h ++ upper h
 feeds_after first queues next h =
     ap (feeds_left first 0) (queues_after first queues next h)
@@ -66,7 +66,7 @@ feeds_after first queues next h =
     ∙ ap (λ (n : ℕ). lower h ++ feeds_left first n (h.rest ∷ h.behind)) (zero-add (length h.before) ∙ sym h.cpu_is)
 
 -- the next frame's feed is the first in order
-pub first_in_order : (first : ℕ) (queues : List (List MarkedFrame)) (next : Next) (h : IsFirst first queues next)
+pub first_in_order : (first : ℕ) (queues : List (List MarkedFrame)) (next : NextFrame) (h : IsFirst first queues next)
     → in_order (feeds_left first 0 queues)
     ≡ next_feed first next h.frame ∷ in_order (feeds_left first 0 (slice_set queues next.cpu h.rest))
 first_in_order first queues next h =
@@ -84,7 +84,7 @@ first_in_order first queues next h =
 
 -- what was dealt and what is left stay what they are together
 pub deals_next : (shape : Shape) (first ticket : ℕ) (queues : List (List MarkedFrame)) (members : List (List Arrival))
-    (next : Next) (h : IsFirst first queues next)
+    (next : NextFrame) (h : IsFirst first queues next)
     → dealt_all shape first (ticket_behind shape.mode ticket h.frame.mark) (slice_set queues next.cpu h.rest)
     (given_by next.moment (with_ticket shape.mode shape.members ticket h.frame.mark) members)
     ≡ dealt_all shape first ticket queues members
@@ -106,7 +106,7 @@ max_more : (end moment left : ℕ) → max (max end moment) left ≡ max end (ma
 max_more end moment left = grind (arith, common_steps)
 
 -- and the moment of the last
-pub ends_next : (first end : ℕ) (queues : List (List MarkedFrame)) (next : Next) (h : IsFirst first queues next)
+pub ends_next : (first end : ℕ) (queues : List (List MarkedFrame)) (next : NextFrame) (h : IsFirst first queues next)
     → max (max end next.moment) (latest (feeds_left first 0 (slice_set queues next.cpu h.rest)))
     ≡ max end (latest (feeds_left first 0 queues))
 ends_next first end queues next h =
@@ -117,7 +117,7 @@ ends_next first end queues next h =
     (ap latest (feeds_before first queues next h) ∙ latest_middle (lower h) (next_feed first next h.frame) (upper h)))
 
 -- one frame less is left
-pub fewer_left : (first : ℕ) (queues : List (List MarkedFrame)) (next : Next) (h : IsFirst first queues next)
+pub fewer_left : (first : ℕ) (queues : List (List MarkedFrame)) (next : NextFrame) (h : IsFirst first queues next)
     → length (feeds_left first 0 (slice_set queues next.cpu h.rest)) < length (feeds_left first 0 queues)
 fewer_left first queues next h =
     omega (
@@ -134,7 +134,7 @@ one_rises [] frame rest behind all = (rest_rises frame rest all.0, all.1)
 one_rises (queue ∷ before) frame rest behind all = (all.0, one_rises before frame rest behind all.1)
 
 -- the times of the rest still rise
-pub still_rise : (first : ℕ) (queues : List (List MarkedFrame)) (next : Next) (h : IsFirst first queues next)
+pub still_rise : (first : ℕ) (queues : List (List MarkedFrame)) (next : NextFrame) (h : IsFirst first queues next)
     → AllByRecursion IsRising queues → AllByRecursion IsRising (slice_set queues next.cpu h.rest)
 still_rise first queues next h all =
     subst (AllByRecursion IsRising) (sym (queues_after first queues next h))
@@ -143,12 +143,12 @@ still_rise first queues next h all =
 -- ---- as the code takes it
 
 -- what was popped of the next frame's queue
-pub record IsPopped {first : ℕ} {queues : List (List MarkedFrame)} {next : Next} (h : IsFirst first queues next)
+pub record IsPopped {first : ℕ} {queues : List (List MarkedFrame)} {next : NextFrame} (h : IsFirst first queues next)
     (frame : MarkedFrame) (left : List MarkedFrame) : Type 0 where
   pub frame_is : frame ≡ h.frame
   pub left_is : left ≡ h.rest
 
-pub popped : (first : ℕ) (queues : List (List MarkedFrame)) (next : Next) (h : IsFirst first queues next)
+pub popped : (first : ℕ) (queues : List (List MarkedFrame)) (next : NextFrame) (h : IsFirst first queues next)
     (queue : List MarkedFrame) (frame : MarkedFrame) (left : List MarkedFrame)
     → queue ≡ slice_index_or queues next.cpu [] → slice_get queue 0 ≡ Some frame → left ≡ drop 1 queue
     → IsPopped h frame left
@@ -163,7 +163,7 @@ popped first queues next h queue frame left is some rest =
     some_same x y e = ap (λ (o : Option MarkedFrame). unwrap_or o x) e
 
 pub deals_taken : (shape : Shape) (first ticket : ℕ) (queues : List (List MarkedFrame)) (members : List (List Arrival))
-    (next : Next) (h : IsFirst first queues next) (frame : MarkedFrame) (left : List MarkedFrame)
+    (next : NextFrame) (h : IsFirst first queues next) (frame : MarkedFrame) (left : List MarkedFrame)
     (later : ℕ) (mark : Mark) (given : List (List Arrival))
     → IsPopped h frame left
     → later ≡ ticket_behind shape.mode ticket frame.mark
@@ -182,7 +182,7 @@ deals_taken shape first ticket queues members next h frame left later mark given
     behind : ℕ
     behind = ticket_behind shape.mode ticket h.frame.mark
 
-pub ends_taken : (first end later : ℕ) (queues : List (List MarkedFrame)) (next : Next) (h : IsFirst first queues next)
+pub ends_taken : (first end later : ℕ) (queues : List (List MarkedFrame)) (next : NextFrame) (h : IsFirst first queues next)
     (frame : MarkedFrame) (left : List MarkedFrame) → IsPopped h frame left → later ≡ max end next.moment
     → max later (latest (feeds_left first 0 (slice_set queues next.cpu left)))
     ≡ max end (latest (feeds_left first 0 queues))
@@ -192,14 +192,14 @@ ends_taken first end later queues next h frame left p l =
     p.left_is
     ∙ ends_next first end queues next h
 
-pub fewer_taken : (first : ℕ) (queues : List (List MarkedFrame)) (next : Next) (h : IsFirst first queues next)
+pub fewer_taken : (first : ℕ) (queues : List (List MarkedFrame)) (next : NextFrame) (h : IsFirst first queues next)
     (frame : MarkedFrame) (left : List MarkedFrame) → IsPopped h frame left
     → length (feeds_left first 0 (slice_set queues next.cpu left)) < length (feeds_left first 0 queues)
 fewer_taken first queues next h frame left p =
     subst (λ (q : List MarkedFrame). length (feeds_left first 0 (slice_set queues next.cpu q))
     < length (feeds_left first 0 queues)) (sym p.left_is) (fewer_left first queues next h)
 
-pub rise_taken : (first : ℕ) (queues : List (List MarkedFrame)) (next : Next) (h : IsFirst first queues next)
+pub rise_taken : (first : ℕ) (queues : List (List MarkedFrame)) (next : NextFrame) (h : IsFirst first queues next)
     (frame : MarkedFrame) (left : List MarkedFrame) → IsPopped h frame left → AllByRecursion IsRising queues
     → AllByRecursion IsRising (slice_set queues next.cpu left)
 rise_taken first queues next h frame left p all =

@@ -8,7 +8,7 @@ use Rattle.std.proofs.lemmas.Bool.{leb-false, leb-true}
 use Rattle.frame_deals.specs.Dealings.{IsRising, RisesFrom}
 use Rattle.frame_deals.specs.inside.Merges.{AreAfter, AreFrom, IsFirst, IsNext, earlier_of, moment_of, sooner_of}
 use Rattle.frame_deals.specs.declared.mark_queue.MarkedFrame.{MarkedFrame}
-use Rattle.frame_deals.specs.declared.merge.Next.{Next}
+use Rattle.frame_deals.specs.declared.merge.NextFrame.{NextFrame}
 use Rattle.reader_pace.specs.Timelines.{first_time}
 
 -- ---- rising times
@@ -67,7 +67,7 @@ joined P [] ys one two = two
 joined P (x ∷ xs) ys one two = (one.0, joined P xs ys one.1 two)
 
 -- all frames of CPUs come after a moment, if they come after a later one or no sooner
-all_after : (first moment : ℕ) (queues : List (List MarkedFrame)) (next : Next) → IsFirst first queues next
+all_after : (first moment : ℕ) (queues : List (List MarkedFrame)) (next : NextFrame) → IsFirst first queues next
     → moment < next.moment → AllByRecursion (AreAfter first moment) queues
 all_after first moment queues next h l =
     let is = h.moment_is in
@@ -104,7 +104,7 @@ comes_first first queues frame rest rises after = record {
 }
 
 -- the one that was found still comes first
-stays_first : (first : ℕ) (queues : List (List MarkedFrame)) (queue : List MarkedFrame) (next : Next)
+stays_first : (first : ℕ) (queues : List (List MarkedFrame)) (queue : List MarkedFrame) (next : NextFrame)
     → IsFirst first queues next → AreFrom first next.moment queue → IsFirst first (queues ++ queue ∷ []) next
 stays_first first queues queue next h from = record {
   before = h.before;
@@ -120,7 +120,7 @@ stays_first first queues queue next h from = record {
   behind_later = joined (AreFrom first next.moment) h.behind (queue ∷ []) h.behind_later (from, tt);
 }
 
-next_than : (first : ℕ) (queues : List (List MarkedFrame)) (frame : MarkedFrame) (rest : List MarkedFrame) (next : Next)
+next_than : (first : ℕ) (queues : List (List MarkedFrame)) (frame : MarkedFrame) (rest : List MarkedFrame) (next : NextFrame)
     (test : Bool) → nat_le next.moment (moment_of first frame) ≡ test
     → IsRising (frame ∷ rest) → IsFirst first queues next
     → IsNext first (queues ++ (frame ∷ rest) ∷ [])
@@ -134,7 +134,7 @@ next_than first queues frame rest next false t rises h =
     (omega (arith, leb-false next.moment (moment_of first frame) t)))
 
 -- the frame that comes first of some CPUs and one more
-pub next_more : (first : ℕ) (queues : List (List MarkedFrame)) (queue : List MarkedFrame) (found : Option Next)
+pub next_more : (first : ℕ) (queues : List (List MarkedFrame)) (queue : List MarkedFrame) (found : Option NextFrame)
     → IsRising queue → IsNext first queues found
     → IsNext first (queues ++ queue ∷ []) (sooner_of found first (length queues) queue)
 next_more first queues [] None rises h = joined (λ queue. queue ≡ []) queues ([] ∷ []) h (refl, tt)
@@ -162,7 +162,8 @@ rising_at [] (suc cpu) all = tt
 rising_at (queue ∷ queues) zero all = all.0
 rising_at (queue ∷ queues) (suc cpu) all = rising_at queues cpu all.1
 
-pub next_found : (first : ℕ) (queues : List (List MarkedFrame)) (cpu : ℕ) (queue : List MarkedFrame) (found later : Option Next)
+pub next_found : (first : ℕ) (queues : List (List MarkedFrame)) (cpu : ℕ) (queue : List MarkedFrame)
+    (found later : Option NextFrame)
     → cpu < length queues → queue ≡ get_or queues cpu [] → AllByRecursion IsRising queues
     → IsNext first (take cpu queues) found → later ≡ sooner_of found first cpu queue
     → IsNext first (take (cpu + 1) queues) later

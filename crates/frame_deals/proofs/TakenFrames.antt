@@ -2,8 +2,8 @@
 use Rattle.std.proofs.Common.{◌≡◌, ℕ, ◌≤◌, List, ◌∷◌, sym, ap, ◌∙◌, subst, arith}
 use Rattle.std.specs.Prelude.{All}
 use Rattle.std.proofs.lemmas.List.Elements.{All-head, All-tail}
-use Rattle.fanout_group.specs.Judgements.{AgreesAt, Lens, rules_by}
-use Rattle.fanout_group.specs.Lenses.{lens_of}
+use Rattle.fanout_group.specs.Judgements.{AgreesAt, JudgeRules, rules_by}
+use Rattle.fanout_group.specs.RulesOfJudging.{judge_rules_of}
 use Rattle.fanout_group.specs.declared.judgements.ArrivalRules.{ArrivalRules}
 use Rattle.fanout_group.specs.Plans.{Shape}
 use Rattle.frame_view.specs.declared.frames.Frame.{Frame}
@@ -16,9 +16,9 @@ pub record AreTaken (rules : ArrivalRules) (old : Dealing) (all : List Frame) (n
   pub shape : now.shape ≡ old.shape
   pub arrivals : old.arrivals ≤ now.arrivals
   pub taken :
-      (lens : Lens) → AgreesAt old.cpu lens (lens_of rules)
-      → after_frames (rules_by old.shape lens) rules.room left now
-      ≡ after_frames (rules_by old.shape lens) rules.room all old
+      (judge : JudgeRules) → AgreesAt old.cpu judge (judge_rules_of rules)
+      → after_frames (rules_by old.shape judge) rules.room left now
+      ≡ after_frames (rules_by old.shape judge) rules.room all old
 
 pub frame_readable : (rules : ArrivalRules) (old : Dealing) (all : List Frame) (now : Dealing) (frame : Frame)
     (left rest : List Frame) → AreTaken rules old all now left → left ≡ frame ∷ rest → IsReadable now.cpu frame
@@ -30,20 +30,20 @@ frame_readable rules old all now frame left rest h e =
 pub one_taken : (rules : ArrivalRules) (old : Dealing) (all : List Frame) (now next : Dealing) (frame : Frame)
     (left rest : List Frame) → AreTaken rules old all now left → left ≡ frame ∷ rest
     → next.cpu ≡ now.cpu → next.shape ≡ now.shape → now.arrivals ≤ next.arrivals
-    → ((lens : Lens) → AgreesAt now.cpu lens (lens_of rules)
-    → next ≡ after_frame (rules_by now.shape lens) rules.room frame now)
+    → ((judge : JudgeRules) → AgreesAt now.cpu judge (judge_rules_of rules)
+    → next ≡ after_frame (rules_by now.shape judge) rules.room frame now)
     → AreTaken rules old all next rest
 one_taken rules old all now next frame left rest h e cpu shape more one = record {
   readable = All-tail (IsReadable old.cpu) frame rest (subst (All (IsReadable old.cpu)) e h.readable);
   cpu = cpu ∙ h.cpu;
   shape = shape ∙ h.shape;
   arrivals = omega (arith, more, h.arrivals);
-  taken = λ lens agrees.
+  taken = λ judge agrees.
       let room : ℕ = rules.room in
-      let there = subst (λ (n : ℕ). AgreesAt n lens (lens_of rules)) (sym h.cpu) agrees in
-      let stepped : next ≡ after_frame (rules_by old.shape lens) room frame now =
-      subst (λ (s : Shape). next ≡ after_frame (rules_by s lens) room frame now) h.shape (one lens there) in
-      ap (after_frames (rules_by old.shape lens) room rest) stepped
-      ∙ ap (λ (frames : List Frame). after_frames (rules_by old.shape lens) room frames now) (sym e)
-      ∙ h.taken lens agrees;
+      let there = subst (λ (n : ℕ). AgreesAt n judge (judge_rules_of rules)) (sym h.cpu) agrees in
+      let stepped : next ≡ after_frame (rules_by old.shape judge) room frame now =
+      subst (λ (s : Shape). next ≡ after_frame (rules_by s judge) room frame now) h.shape (one judge there) in
+      ap (after_frames (rules_by old.shape judge) room rest) stepped
+      ∙ ap (λ (frames : List Frame). after_frames (rules_by old.shape judge) room frames now) (sym e)
+      ∙ h.taken judge agrees;
 }

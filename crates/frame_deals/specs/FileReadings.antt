@@ -3,20 +3,20 @@ use Rattle.std.specs.Prelude.{◌≡◌, ℕ, ◌+◌, ◌-◌, ◌≤◌, List,
 use Rattle.capture_file.specs.Capture.{frames_of}
 use Rattle.capture_file.specs.Decoders.{Represents}
 use Rattle.capture_reading.specs.Sources.{GaveBy, GaveIfThere}
-use Rattle.fanout_group.specs.Judgements.{AgreesAt, Lens, rules_by}
-use Rattle.fanout_group.specs.Lenses.{lens_of}
+use Rattle.fanout_group.specs.Judgements.{AgreesAt, JudgeRules, rules_by}
+use Rattle.fanout_group.specs.RulesOfJudging.{judge_rules_of}
 use Rattle.fanout_group.specs.declared.judgements.ArrivalRules.{ArrivalRules}
 use Rattle.frame_deals.specs.Dealings.{Dealing, after_frames}
 use Rattle.frame_deals.specs.declared.files.FileReading.{FileReading}
 use Rattle.frame_deals.specs.declared.files.FileSoFar.{FileSoFar}
 use Rattle.tap_outside.specs.Seen.{SourceSeen}
 
--- the frames of these bytes were taken, whatever lens agrees with the rules at the CPU
+-- the frames of these bytes were taken, whatever judge agrees with the rules at the CPU
 abbrev pub TookFrames : ArrivalRules → List ℕ → Dealing → Dealing → Type 0
 TookFrames rules bytes old new =
-    (lens : Lens)
-    → AgreesAt old.cpu lens (lens_of rules)
-    → new ≡ after_frames (rules_by old.shape lens) rules.room (frames_of old.cpu bytes) old
+    (judge : JudgeRules)
+    → AgreesAt old.cpu judge (judge_rules_of rules)
+    → new ≡ after_frames (rules_by old.shape judge) rules.room (frames_of old.cpu bytes) old
 
 -- a file was read: what its source gave, how it ended, and that its frames were taken
 pub record HasReadFile (rules : ArrivalRules) (before now : Option SourceSeen)

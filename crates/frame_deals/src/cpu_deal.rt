@@ -1,7 +1,7 @@
 //! The frames of a CPU, of which times and marks are kept.
 ghost use Rattle.std.specs.Prelude.{◌≡◌, ◌≤◌, OnOk, All};
-ghost use Rattle.fanout_group.specs.Judgements.{AgreesAt, Lens, rules_by};
-ghost use Rattle.fanout_group.specs.Lenses.{lens_of};
+ghost use Rattle.fanout_group.specs.Judgements.{AgreesAt, JudgeRules, rules_by};
+ghost use Rattle.fanout_group.specs.RulesOfJudging.{judge_rules_of};
 ghost use Rattle.deal_rules.specs.Times.{time_of};
 ghost use Rattle.frame_deals.specs.Dealings.{IsReadable, IsRising, IsRoom, after_frame};
 ghost use Rattle.frame_deals.specs.Dealings.{after_frames, count_of, first_dealing};
@@ -116,8 +116,8 @@ impl CpuDeal {
         ensures cpu { OnOk result (self.new.cpu ≡ self.old.cpu) }
         ensures shape { OnOk result (self.new.shape ≡ self.old.shape) }
         ensures arrivals { OnOk result (self.old.arrivals ≤ self.new.arrivals) }
-        ensures taken { OnOk result ((lens : Lens) → AgreesAt self.old.cpu lens (lens_of rules.now)
-            → self.new ≡ after_frame (rules_by self.old.shape lens) rules.now.room frame self.old) }
+        ensures taken { OnOk result ((judge : JudgeRules) → AgreesAt self.old.cpu judge (judge_rules_of rules.now)
+            → self.new ≡ after_frame (rules_by self.old.shape judge) rules.now.room frame self.old) }
     {
         if self.frames == u32::MAX {
             return Err(Memory);
@@ -146,9 +146,9 @@ impl CpuDeal {
         ensures cpu { OnOk result (self.new.cpu ≡ self.old.cpu) }
         ensures shape { OnOk result (self.new.shape ≡ self.old.shape) }
         ensures arrivals { OnOk result (self.old.arrivals ≤ self.new.arrivals) }
-        ensures taken { OnOk result ((lens : Lens) → AgreesAt self.old.cpu lens (lens_of rules.now)
+        ensures taken { OnOk result ((judge : JudgeRules) → AgreesAt self.old.cpu judge (judge_rules_of rules.now)
             → self.new
-            ≡ after_frames (rules_by self.old.shape lens) rules.now.room frames self.old) }
+            ≡ after_frames (rules_by self.old.shape judge) rules.now.room frames self.old) }
     {
         for frame in frames.into_vec() {
             self.take(alloc, rules, frame)?;

@@ -13,7 +13,7 @@ use ring_sizes::Arrival;
 use std::alloc::Global;
 
 /// What a member is given, in order.
-pub type ArrivalList = ItemList<Arrival>;
+pub type DealtList = ItemList<Arrival>;
 
 /// The last moment that a schedule's clock can be at, in nanoseconds: 4,294,967,295 milliseconds.
 const LAST_MOMENT: u64 = 4_294_967_295_000_000;
@@ -23,7 +23,7 @@ const LAST_MOMENT: u64 = 4_294_967_295_000_000;
 #[derive(Drop)]
 pub struct Dealt {
     /// What each member is given, from member 0 up.
-    pub members: Vec<ArrivalList>,
+    pub members: Vec<DealtList>,
     /// When the last frame of all CPUs comes.
     pub end: u64,
 }

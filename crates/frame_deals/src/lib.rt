@@ -12,7 +12,7 @@ mod marks;
 mod merge;
 
 pub use cpu_deal::CpuDeal;
-pub use deals::{ArrivalList, Dealt, deal};
+pub use deals::{Dealt, DealtList, deal};
 pub use files::FileReading;
 pub use laws::{
     a_file_adds_its_frames, all_files_are_what_arrives, one_file_is_the_capture_of_a_run,

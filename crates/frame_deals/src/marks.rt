@@ -2,8 +2,8 @@
 ghost use Rattle.std.specs.Prelude.{◌≡◌, IfSome, Some};
 ghost use Rattle.deal_rules.specs.Marks.{mark_of};
 ghost use Rattle.fanout_group.specs.Arrivals.{IsArrival};
-ghost use Rattle.fanout_group.specs.Judgements.{AgreesAt, Lens, rules_by};
-ghost use Rattle.fanout_group.specs.Lenses.{lens_of};
+ghost use Rattle.fanout_group.specs.Judgements.{AgreesAt, JudgeRules, rules_by};
+ghost use Rattle.fanout_group.specs.RulesOfJudging.{judge_rules_of};
 ghost use Rattle.fanout_group.specs.Rules.{home_by};
 ghost use Rattle.frame_deals.specs.Dealings.{IsRoom};
 
@@ -24,8 +24,8 @@ pub(crate) fn mark(
     requires sound { IfSome arrival IsArrival }
     requires place { IfSome arrival (λ frame. frame.cpu ≡ cpu) }
     requires room { IsRoom rules.now.room }
-    ensures { (lens : Lens) → AgreesAt cpu lens (lens_of rules.now)
-        → result ≡ mark_of (rules_by plan.now lens) rules.now.room 0 arrival }
+    ensures { (judge : JudgeRules) → AgreesAt cpu judge (judge_rules_of rules.now)
+        → result ≡ mark_of (rules_by plan.now judge) rules.now.room 0 arrival }
 {
     match arrival {
         Some(frame) => mark_frame(alloc, plan, rules, cpu, frame),
@@ -38,8 +38,8 @@ fn mark_frame(alloc: Global, plan: &Plan, rules: &ArrivalRules, cpu: u32, frame:
     requires sound { IsArrival frame }
     requires place { frame.cpu ≡ cpu }
     requires room { IsRoom rules.now.room }
-    ensures { (lens : Lens) → AgreesAt cpu lens (lens_of rules.now)
-        → result ≡ mark_of (rules_by plan.now lens) rules.now.room 0 (Some frame) }
+    ensures { (judge : JudgeRules) → AgreesAt cpu judge (judge_rules_of rules.now)
+        → result ≡ mark_of (rules_by plan.now judge) rules.now.room 0 (Some frame) }
 {
     let Judged { entry, offer } = rules.judge(alloc, frame, None);
     let Some(offer) = offer else {

@@ -7,7 +7,7 @@ ghost use Rattle.frame_deals.specs.inside.Merges.{first_of, sooner_of};
 ghost use Rattle.frame_deals.specs.inside.Merges.{frames_left, given_by, ticket_behind};
 ghost use Rattle.frame_deals.specs.inside.Merges.{with_ticket};
 
-use crate::{ArrivalList, MarkQueue};
+use crate::{DealtList, MarkQueue};
 use deal_rules::Mark;
 use fanout_group::{Mode, Plan};
 use frame_view::Memory;
@@ -24,14 +24,14 @@ pub(crate) struct Merge {
     /// The next ticket.
     pub(crate) ticket: u64,
     /// What each member was given.
-    pub(crate) members: Vec<ArrivalList>,
+    pub(crate) members: Vec<DealtList>,
     /// The greatest moment so far.
     pub(crate) end: u64,
 }
 
 /// The frame that comes next.
 #[derive(Clone, Copy)]
-pub(crate) struct Next {
+pub(crate) struct NextFrame {
     /// The number of its CPU.
     pub(crate) cpu: usize,
     /// Its moment.
@@ -52,7 +52,7 @@ impl Merge {
         let count = plan.members() as usize;
         let mut members = Vec::with_capacity(alloc, count)?;
         'opening: while members.len() < count {
-            members.push(ArrivalList::new(alloc))?;
+            members.push(DealtList::new(alloc))?;
         }
         Ok(Merge {
             first,
@@ -64,7 +64,7 @@ impl Merge {
     }
 
     /// The frame that comes next: the one of the least moment, and of these that of the lowest CPU.
-    pub(crate) fn next(&self) -> Option<Next>
+    pub(crate) fn next(&self) -> Option<NextFrame>
         requires rise { AllByRecursion IsRising self.now.queues.items }
         ensures { IsNext self.now.first self.now.queues.items result }
     {
@@ -79,7 +79,7 @@ impl Merge {
 
     /// Deals the next frame. The only error is that an allocation fails, or that there are
     /// 18,446,744,073,709,551,615 tickets.
-    pub(crate) fn take(&mut self, alloc: Global, plan: &Plan, next: Next) -> Result<(), Memory>
+    pub(crate) fn take(&mut self, alloc: Global, plan: &Plan, next: NextFrame) -> Result<(), Memory>
         requires first { IsFirst self.old.first self.old.queues.items next }
         requires rise { AllByRecursion IsRising self.old.queues.items }
         ensures dealt { OnOk result (dealt_of plan.now self.new ≡ dealt_of plan.now self.old) }
@@ -101,7 +101,7 @@ impl Merge {
 }
 
 /// The frame that comes first: the one that was found, or the first of this CPU.
-fn sooner(found: Option<Next>, first: u64, cpu: usize, queue: &MarkQueue) -> Option<Next>
+fn sooner(found: Option<NextFrame>, first: u64, cpu: usize, queue: &MarkQueue) -> Option<NextFrame>
     ensures { result ≡ sooner_of found first cpu queue.now }
 {
     let Some(frame) = queue.front() else {
@@ -110,7 +110,7 @@ fn sooner(found: Option<Next>, first: u64, cpu: usize, queue: &MarkQueue) -> Opt
     let moment = frame.time.saturating_sub(first);
     match found {
         Some(next) if next.moment <= moment => found,
-        _ => Some(Next { cpu, moment }),
+        _ => Some(NextFrame { cpu, moment }),
     }
 }
 
@@ -163,7 +163,7 @@ fn ticket_behind(plan: &Plan, ticket: u64, mark: Mark) -> u64
 }
 
 /// Gives a member what its mark says, if there is such a member.
-fn give(members: &mut Vec<ArrivalList>, at: u64, mark: Mark) -> Result<(), Memory>
+fn give(members: &mut Vec<DealtList>, at: u64, mark: Mark) -> Result<(), Memory>
     ensures { OnOk result (members.new.items ≡ given_by at mark members.old.items) }
 {
     let Mark::Given { home, need } = mark else {

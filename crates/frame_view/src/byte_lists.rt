@@ -9,6 +9,9 @@ use std::alloc::Global;
 use std::marker::Model;
 use std::sync::Arc;
 
+/// The most bytes that are read or saved at once: this project's own choice.
+pub const PIECE: usize = 65_536;
+
 /// Bytes, in order. Contracts see them as a list. A list has memory of its own, or is a part of a
 /// `Piece`, whose memory lives as long as any of its parts.
 #[derive(Debug, Drop)]

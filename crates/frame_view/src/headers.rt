@@ -37,6 +37,10 @@ const BROADCAST: [u8; 6] = [0xff; 6];
 /// The least type field that is a type and not a length (ETH_P_802_3_MIN of `linux/if_ether.h`).
 const LEAST_TYPE: u16 = 0x0600;
 
+/// The bytes of a link header (IEEE 802.3). A frame with fewer is a runt: it isn't an arrival, and
+/// it isn't sent.
+pub const LINK_HEADER: usize = 14;
+
 /// Reads the headers of a frame, by IEEE 802.3, RFC 791, RFC 8200 and the protocol numbers of
 /// `linux/if_ether.h`. An IP header that is cut off, or whose lengths contradict each other, leaves
 /// the frame `Plain`; its checksum isn't tested.
@@ -44,7 +48,7 @@ const LEAST_TYPE: u16 = 0x0600;
 pub fn view(bytes: &[u8]) -> Headers
     ensures { result ≡ view_of bytes.now }
 {
-    if bytes.len() < 14 {
+    if bytes.len() < LINK_HEADER {
         return Headers::Runt;
     }
     let link = link_header(bytes);

@@ -12,11 +12,11 @@ mod memory;
 mod numbers;
 mod vlan;
 
-pub use byte_lists::{ByteList, Piece};
+pub use byte_lists::{ByteList, PIECE, Piece};
 pub use checksums::checksum;
 pub use frame_parts::{Parts, build};
 pub use frames::{Frame, Frames, Packet, Packets, Tag};
-pub use headers::{Headers, Link, link_header, pkttype, view};
+pub use headers::{Headers, LINK_HEADER, Link, link_header, pkttype, view};
 pub use ip_headers::{V4Part, V6Part};
 pub use list_types::{ItemList, MomentList};
 pub use memory::Memory;

@@ -8,7 +8,7 @@ use Rattle.frame_view.specs.declared.frames.Frame.{Frame}
 use Rattle.ip_defrag.specs.Datagrams.{completed}
 use Rattle.ip_defrag.specs.Grouped.{Group, Joined, held_by, joined_whole, with_frame, completed_with, joined, joined_by}
 use Rattle.ip_defrag.specs.Grouped.{judgement, IsHeld, IsJoined}
-use Rattle.ip_defrag.specs.declared.passes.Answer.{Answer}
+use Rattle.ip_defrag.specs.declared.passes.FragmentAnswer.{FragmentAnswer}
 use Rattle.ip_defrag.specs.declared.rules.Judgement.{Judgement}
 use Rattle.ip_defrag.specs.declared.rules.Judgement.TheVariants.{Fits}
 
@@ -50,7 +50,7 @@ holds_some frame group new taken some left at used (Some whole) h p q is l t u =
     (joined_whole (Some whole) frame group some at) = cc in
     here ∙ ap (λ (o : Option Frame). joined_whole o frame group some at) q
 
-parts : (frame : Frame) (at : ℕ) (some left : List Group) (answer : Answer) (group : Group)
+parts : (frame : Frame) (at : ℕ) (some left : List Group) (answer : FragmentAnswer) (group : Group)
     → ((d : Group) → group ≡ get_or some at d)
     → ◌≡◌ {A = Joined} (record { left = left; whole = answer.whole; used = answer.used }) (held_by frame group some at)
     → IsHeld frame at some left answer
@@ -83,7 +83,8 @@ some_held frame group new taken some left at used whole h read p q is l t u =
     (holds_some frame group new taken some left at used whole h p q is l t u)
 
 -- a frame that fits joins a group that is as before
-pub fits_joined : (frame : Frame) (at : ℕ) (some left : List Group) (group same : Group) (answer : Answer) → at < length some
+pub fits_joined : (frame : Frame) (at : ℕ) (some left : List Group) (group same : Group) (answer : FragmentAnswer)
+    → at < length some
     → group ≡ get_or some at group → same ≡ group → judgement frame group.fragments ≡ Fits
     → IsHeld frame at (set some at same) left answer → IsJoined frame at some left answer
 unfolding joined

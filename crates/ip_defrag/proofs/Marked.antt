@@ -15,7 +15,7 @@ use Rattle.ip_defrag.specs.Extents.{reach_of}
 use Rattle.ip_defrag.specs.Fragments.{from_of, to_of}
 use Rattle.ip_defrag.specs.Held.{AreHeld}
 use Rattle.ip_defrag.specs.Marks.{AreMarked, AreMarks, holder, marked, own_marks, units_to}
-use Rattle.ip_defrag.specs.declared.marks.Marks.{Marks}
+use Rattle.ip_defrag.specs.declared.marks.UnitOwners.{UnitOwners}
 use Rattle.ip_defrag.proofs.Cases.{by_cases}
 use Rattle.ip_defrag.proofs.Kept.{reach_push}
 use Rattle.ip_defrag.proofs.Spliced.{get_or-spliced, length-spliced}
@@ -278,7 +278,7 @@ marks_after marks wide new_marks frames new from to last number len are held som
     (ap (λ (n : ℕ). marked (from / 8) last n wide) (sym count) ∙ sym is ∙ sym (lent len new_marks wide as_long same)) after
 
 -- marks of no frame, of any frames
-pub marked_none : (marks : Marks) (frames : List Frame) → marks.units.items ≡ [] → marks.count ≡ 0 → AreMarked marks frames
+pub marked_none : (marks : UnitOwners) (frames : List Frame) → marks.units.items ≡ [] → marks.count ≡ 0 → AreMarked marks frames
 marked_none marks frames none few = record {
   few = omega (arith, few);
   are = rw (none, few) marks_none;
@@ -292,7 +292,7 @@ take_before (suc count) [] new few = absurd (omega (arith, few))
 take_before (suc count) (frame ∷ frames) new few =
     ap (λ (fs : List Frame). frame ∷ fs) (take_before count frames new (omega (arith, few)))
 
-pub marked_more : (marks : Marks) (frames : List Frame) (new : Frame) → AreMarked marks frames
+pub marked_more : (marks : UnitOwners) (frames : List Frame) (new : Frame) → AreMarked marks frames
     → AreMarked marks (frames ++ new ∷ [])
 marked_more marks frames new are =
     let few = are.few in
@@ -303,7 +303,7 @@ marked_more marks frames new are =
     }
 
 -- the marks after the next frame was marked
-pub marked_next : (marks : Marks) (wide new_marks : List ℕ) (frames : List Frame) (new : Frame) (from to last len : ℕ)
+pub marked_next : (marks : UnitOwners) (wide new_marks : List ℕ) (frames : List Frame) (new : Frame) (from to last len : ℕ)
     → AreMarked marks frames → AreHeld frames
     → marks.count < length frames → new ≡ get_or frames marks.count new → from_of new < to_of new → from ≡ from_of new
     → to ≡ to_of new → last ≡ units_to to

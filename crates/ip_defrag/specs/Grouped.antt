@@ -10,7 +10,7 @@ use Rattle.ip_defrag.specs.Fold.{is_copy, conflicts}
 use Rattle.ip_defrag.specs.Datagrams.{completed}
 use Rattle.ip_defrag.specs.declared.rules.Judgement.{Judgement}
 use Rattle.ip_defrag.specs.declared.rules.Judgement.TheVariants.{Copy, Conflict, Fits}
-use Rattle.ip_defrag.specs.declared.passes.Answer.{Answer}
+use Rattle.ip_defrag.specs.declared.passes.FragmentAnswer.{FragmentAnswer}
 use Rattle.ip_defrag.specs.declared.names.Name.{Name}
 
 -- the held frames of a name, in the order in which they were pushed, and the seconds of the first
@@ -114,7 +114,7 @@ pub record Agrees (passed : Passed) (before : ℕ) (left : List Group) (whole : 
   pub counted : passed.discarded + length passed.held + used ≡ before + 1
 
 -- what was returned and left is the result of a frame at a place
-pub record IsJoined (frame : Frame) (at : ℕ) (some left : List Group) (answer : Answer)
+pub record IsJoined (frame : Frame) (at : ℕ) (some left : List Group) (answer : FragmentAnswer)
     : Type 0 where
   pub left_is : (d : Group) → left ≡ (joined frame (slice_index_or some at d) some at).left
   pub whole_is :
@@ -122,14 +122,15 @@ pub record IsJoined (frame : Frame) (at : ℕ) (some left : List Group) (answer 
   pub used_is : (d : Group) → answer.used ≡ (joined frame (slice_index_or some at d) some at).used
 
 -- the same for a frame that fits there
-pub record IsHeld (frame : Frame) (at : ℕ) (some left : List Group) (answer : Answer) : Type 0 where
+pub record IsHeld (frame : Frame) (at : ℕ) (some left : List Group)
+    (answer : FragmentAnswer) : Type 0 where
   pub left_is : (d : Group) → left ≡ (held_by frame (slice_index_or some at d) some at).left
   pub whole_is :
       (d : Group) → answer.whole ≡ (held_by frame (slice_index_or some at d) some at).whole
   pub used_is : (d : Group) → answer.used ≡ (held_by frame (slice_index_or some at d) some at).used
 
 -- what was returned and left agrees with a frame's pass over a flat list
-abbrev pub Passes : List Frame → Frame → List Group → Answer → Type 0
+abbrev pub Passes : List Frame → Frame → List Group → FragmentAnswer → Type 0
 Passes held frame left answer = Agrees (pass held frame) (length held) left answer.whole answer.used
 
 -- how many frames are held, and the most that can be

@@ -6,7 +6,7 @@ use Rattle.frame_view.specs.declared.frames.Frame.{Frame}
 use Rattle.ip_defrag.specs.Datagrams.{covers}
 use Rattle.ip_defrag.specs.Extents.{reach_of}
 use Rattle.ip_defrag.specs.Fragments.{from_of, to_of}
-use Rattle.ip_defrag.specs.declared.marks.Marks.{Marks}
+use Rattle.ip_defrag.specs.declared.marks.UnitOwners.{UnitOwners}
 
 -- how many units begin before a place
 abbrev pub units_to : ℕ → ℕ
@@ -37,6 +37,6 @@ pub record AreMarks (marks : List ℕ) (frames : List Frame) : Type 0 where
   pub all : reach_of frames ≤ 8 * length marks
 
 -- the first of some frames are marked, as many as are counted
-pub record AreMarked (marks : Marks) (frames : List Frame) : Type 0 where
+pub record AreMarked (marks : UnitOwners) (frames : List Frame) : Type 0 where
   pub few : marks.count ≤ length frames
   pub are : AreMarks marks.units.items (take marks.count frames)

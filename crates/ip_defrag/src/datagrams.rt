@@ -11,7 +11,7 @@ ghost use Rattle.ip_defrag.specs.Marks.{AreMarks};
 use crate::NoPush;
 use crate::extents::Extent;
 use crate::fragments::Fragment;
-use crate::marks::{Marks, met};
+use crate::marks::{UnitOwners, met};
 use crate::names::Name;
 use crate::rules::{Judgement, apart, beside};
 use crate::wholes::completed;
@@ -32,7 +32,7 @@ pub(crate) struct Datagram {
     /// The fragments, in the order in which they were pushed.
     fragments: Vec<Fragment>,
     /// Which of the marked ones has which unit of eight bytes.
-    marks: Marks,
+    marks: UnitOwners,
     /// Their extent.
     extent: Extent,
 }
@@ -74,7 +74,7 @@ impl Datagram {
             name,
             opened,
             fragments,
-            marks: Marks::new(alloc),
+            marks: UnitOwners::new(alloc),
             extent,
         })
     }

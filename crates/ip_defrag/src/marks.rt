@@ -1,7 +1,8 @@
 //! Which held fragment has which part of a datagram, so that a new one is compared with at most one
 //! of them. Each fragment begins at a multiple of eight bytes, so the datagram is marked in units
 //! of eight.
-ghost use Rattle.std.specs.Prelude.{◌≡◌, ◌+◌, ◌-◌, ◌/◌, ◌<◌, ◌≤◌, ◌++◌, [], OnErr, OnOk, drop, find};
+ghost use Rattle.std.specs.Prelude.{◌≡◌, ◌+◌, ◌-◌, ◌/◌, ◌<◌, ◌≤◌, ◌++◌, [], OnErr, OnOk, drop};
+ghost use Rattle.std.specs.Prelude.{find};
 ghost use Rattle.std.specs.Prelude.{length, nat_lt, option_copied, replicate, take};
 ghost use Rattle.ip_defrag.specs.Fragments.{from_of};
 ghost use Rattle.ip_defrag.specs.Held.{AreHeld};
@@ -17,20 +18,20 @@ const UNIT: usize = 8;
 /// The marks of a datagram. Fragments that come in their order are judged without them, so those
 /// that are held are marked only once one comes that begins before the end of another.
 #[derive(Drop)]
-pub(crate) struct Marks {
+pub(crate) struct UnitOwners {
     /// Which fragment has which unit: its number, from 1, and 0 where none has it.
     pub(crate) units: Vec<u16>,
     /// The number of fragments that are marked, the first ones.
     pub(crate) count: usize,
 }
 
-impl Marks {
+impl UnitOwners {
     /// The marks of no fragment.
-    pub(crate) fn new(alloc: Global) -> Marks
+    pub(crate) fn new(alloc: Global) -> UnitOwners
         ensures units { result.units.items ≡ [] }
         ensures count { result.count ≡ 0 }
     {
-        Marks {
+        UnitOwners {
             units: Vec::new(alloc),
             count: 0,
         }

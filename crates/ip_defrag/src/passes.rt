@@ -23,7 +23,7 @@ const MOST_NAMES: usize = 64;
 
 /// The result for a fragment.
 #[derive(Drop)]
-struct Answer {
+struct FragmentAnswer {
     /// The datagram's frame, if the fragment completed it.
     whole: Option<Frame>,
     /// The number of fragments that are in that frame.
@@ -93,7 +93,7 @@ fn join(
     datagrams: &mut Vec<Datagram>,
     at: usize,
     fragment: Fragment,
-) -> Result<Answer, NoPush>
+) -> Result<FragmentAnswer, NoPush>
     requires taken { takes_part fragment ≡ true }
     requires below { at < length datagrams.old.items }
     ensures is { IfOk result (λ it.
@@ -101,7 +101,7 @@ fn join(
     ensures unchanged { OnErr result (datagrams.new.items ≡ datagrams.old.items) }
     ensures handed_back { IfErr result (λ no. no.frame ≡ fragment) }
 {
-    let nothing = Answer {
+    let nothing = FragmentAnswer {
         whole: None,
         used: 0,
     };
@@ -126,7 +126,7 @@ fn hold(
     datagrams: &mut Vec<Datagram>,
     at: usize,
     fragment: Fragment,
-) -> Result<Answer, NoPush>
+) -> Result<FragmentAnswer, NoPush>
     requires taken { takes_part fragment ≡ true }
     requires below { at < length datagrams.old.items }
     requires fits { HoldsAt (FitsIn fragment) datagrams.old.items at }
@@ -136,10 +136,10 @@ fn hold(
 {
     let whole = datagrams[at].add(alloc, fragment)?;
     if whole.is_none() {
-        return Ok(Answer { whole, used: 0 });
+        return Ok(FragmentAnswer { whole, used: 0 });
     }
     let used = datagrams.remove(at).len();
-    Ok(Answer { whole, used })
+    Ok(FragmentAnswer { whole, used })
 }
 
 /// Passes a fragment over the datagrams, and counts what they hold anew. The trace reports which
@@ -181,7 +181,7 @@ fn pass_by(
     trace: &History<Frame>,
     datagrams: &mut Vec<Datagram>,
     fragment: Fragment,
-) -> Result<Answer, NoPush>
+) -> Result<FragmentAnswer, NoPush>
     requires taken { takes_part fragment ≡ true }
     requires held { datagrams.old.items ≡ groups trace.now.items }
     requires few { length datagrams.old.items ≤ 64 }
@@ -199,7 +199,7 @@ fn pass_by(
         }
         None => {
             open(alloc, datagrams, fragment)?;
-            Ok(Answer {
+            Ok(FragmentAnswer {
                 whole: None,
                 used: 0,
             })

@@ -5,8 +5,8 @@ use Rattle.std.specs.Prelude.{map}
 use Rattle.ring_sizes.specs.Schedules.{IsPace, is_stalled, step_moment, steps_before, tick_moment, ticks_by}
 use Rattle.ring_sizes.specs.declared.events.Event.TheVariants.{Packet, Read}
 use Rattle.ring_sizes.specs.declared.paces.Arrival.{Arrival}
-use Rattle.ring_sizes.specs.declared.paces.Pace.{Pace}
-use Rattle.ring_sizes.specs.declared.paces.Stall.{Stall}
+use Rattle.ring_sizes.specs.declared.paces.Timing.{Timing}
+use Rattle.ring_sizes.specs.declared.paces.StallTime.{StallTime}
 use Rattle.ring_sizes.proofs.Counts.{next_tick, steps_rise, tick_comes, ticks_rise}
 use Rattle.pace_laws.proofs.Beats.{beats_in, beats_on, each, packet_of, reads_at, stamped_from, step_reads, steps_in}
 use Rattle.pace_laws.proofs.Beats.{steps_on, tick_of, ticks_on}
@@ -30,7 +30,7 @@ comes_sooner since after (arrival ∷ arrivals) end l h = (omega (arith, l, h.0)
 pub later_one : (since at : ℕ) → since ≤ at → max since at ≡ at
 later_one since at h = omega (arith, h)
 
-pub ticks_join : (pace : Pace) (ticks a b : ℕ)
+pub ticks_join : (pace : Timing) (ticks a b : ℕ)
     → ticks_on pace ticks a ++ ticks_on pace (ticks + a) b ≡ ticks_on pace ticks (a + b)
 ticks_join pace ticks zero b =
     let at : ticks + 0 ≡ ticks = omega arith in
@@ -43,7 +43,7 @@ ticks_join pace ticks (suc a) b =
     ∙ ap (λ (rest : List Stamped). tick_of pace (ticks + 1) ∷ rest) (ticks_join pace (ticks + 1) a b)
     ∙ ap (ticks_on pace ticks) more
 
-ticks_are : (pace : Pace) (ticks more : ℕ) → AreOf OfTick (ticks_on pace ticks more)
+ticks_are : (pace : Timing) (ticks more : ℕ) → AreOf OfTick (ticks_on pace ticks more)
 ticks_are pace ticks zero = tt
 ticks_are pace ticks (suc more) = (refl, ticks_are pace (ticks + 1) more)
 
@@ -59,7 +59,7 @@ packets_are : (arrivals : List Arrival) → AreOf OfPacket (map packet_of arriva
 packets_are [] = tt
 packets_are (arrival ∷ arrivals) = (refl, packets_are arrivals)
 
-module _ (stalls : List Stall) (pace : Pace) (blocks : ℕ) where
+module _ (stalls : List StallTime) (pace : Timing) (blocks : ℕ) where
   abbrev steps : ℕ → ℕ → List Stamped
   steps done more = steps_on stalls pace blocks done more
 

@@ -7,8 +7,8 @@ use Rattle.std.proofs.lemmas.Nat.{le-div, mul-le}
 use Rattle.ring_sizes.specs.Schedules.{IsPace, is_stalled, step_moment, steps_before, tick_moment, ticks_by}
 use Rattle.ring_sizes.specs.declared.events.Event.TheVariants.{Packet, Read}
 use Rattle.ring_sizes.specs.declared.paces.Arrival.{Arrival}
-use Rattle.ring_sizes.specs.declared.paces.Pace.{Pace}
-use Rattle.ring_sizes.specs.declared.paces.Stall.{Stall}
+use Rattle.ring_sizes.specs.declared.paces.Timing.{Timing}
+use Rattle.ring_sizes.specs.declared.paces.StallTime.{StallTime}
 use Rattle.ring_sizes.proofs.Counts.{step_comes}
 use Rattle.pace_laws.proofs.Beats.{beats_in, beats_on, each, packet_of, reads_at, stamped_from, step_reads, steps_in}
 use Rattle.pace_laws.proofs.Beats.{steps_on, tick_of}
@@ -30,7 +30,7 @@ reads_run false low at n high l h k =
     is_top : low ≤ 3 * at + 2 → 3 * at + 2 ≡ max low (3 * at + 2)
     is_top l = omega (arith, l)
 
-module _ (stalls : List Stall) (pace : Pace) (blocks : ℕ) where
+module _ (stalls : List StallTime) (pace : Timing) (blocks : ℕ) where
   -- the next steps after so many come between these moments, the later one not included
   abbrev StepsIn : ℕ → ℕ → ℕ → ℕ → Type 0
   StepsIn more done since at =

@@ -7,16 +7,16 @@ use Rattle.ring_sizes.specs.Schedules.{step_event, step_moment, steps_before, st
 use Rattle.ring_sizes.specs.declared.events.Event.{Event}
 use Rattle.ring_sizes.specs.declared.events.Event.TheVariants.{Packet, Tick, Read}
 use Rattle.ring_sizes.specs.declared.paces.Arrival.{Arrival}
-use Rattle.ring_sizes.specs.declared.paces.Pace.{Pace}
-use Rattle.ring_sizes.specs.declared.paces.Stall.{Stall}
+use Rattle.ring_sizes.specs.declared.paces.Timing.{Timing}
+use Rattle.ring_sizes.specs.declared.paces.StallTime.{StallTime}
 use Rattle.pace_laws.proofs.Orders.{Stamped}
 use Rattle.pace_laws.proofs.Spreads.{event_in, events_in, reads_of_step, spread, spread_append}
 
-abbrev pub tick_of : Pace → ℕ → Stamped
+abbrev pub tick_of : Timing → ℕ → Stamped
 tick_of pace number = record { at = tick_moment pace number; event = Tick (number * pace.tov) }
 
 -- the next ticks after so many
-abbrev pub ticks_on : Pace → ℕ → ℕ → List Stamped
+abbrev pub ticks_on : Timing → ℕ → ℕ → List Stamped
 ticks_on pace ticks zero = []
 ticks_on pace ticks (suc more) = tick_of pace (ticks + 1) ∷ ticks_on pace (ticks + 1) more
 
@@ -29,7 +29,7 @@ abbrev pub packet_of : Arrival → Stamped
 packet_of arrival = record { at = arrival.at; event = Packet arrival.need }
 
 -- for a ring of so many blocks
-module _ (stalls : List Stall) (pace : Pace) (blocks : ℕ) where
+module _ (stalls : List StallTime) (pace : Timing) (blocks : ℕ) where
   abbrev pub each : ℕ
   each = reads_of_step blocks pace.takes_all
 

@@ -6,7 +6,7 @@ use Rattle.ring_events.specs.Happenings.{IsNeverHeld}
 use Rattle.ring_model.specs.Fates.{totals_of}
 use Rattle.ring_sizes.specs.Phases.{AreTried, IsBeginning, IsFirst, IsFirstMost, IsPhase, begun}
 use Rattle.ring_sizes.specs.Schedules.{IsPace}
-use Rattle.ring_sizes.specs.declared.paces.Pace.{Pace}
+use Rattle.ring_sizes.specs.declared.paces.Timing.{Timing}
 use Rattle.ring_sizes.specs.declared.tries.Reached.{Reached}
 use Rattle.ring_sizes.specs.declared.tries.Tries.{Tries}
 use Rattle.ring_sizes.proofs.Worsts.{tried_pace}
@@ -20,11 +20,11 @@ use Rattle.pace_laws.proofs.RingAnswers.{free_iff, least_some, stats_are}
 use Rattle.pace_laws.proofs.SizingRuns.{blocks_had, of_blocks, some_lines}
 
 -- a phase and a beginning that are tried are those of a pace
-pub sound_at : (pace : Pace) (tries : Tries) (phase from : ℕ) → AreTried pace tries → tries.from_end ≤ 2 ^ 32
+pub sound_at : (pace : Timing) (tries : Tries) (phase from : ℕ) → AreTried pace tries → tries.from_end ≤ 2 ^ 32
     → IsPhase tries phase → IsBeginning tries from → IsPace (begun pace phase from)
 sound_at pace tries phase from tried soon p b = tried_pace pace tries phase from tried p.1 (omega (arith, soon, b.1))
 
-module _ (sizing : Sizing) (pace : Pace) (sizing_is : IsSizing sizing pace) where
+module _ (sizing : Sizing) (pace : Timing) (sizing_is : IsSizing sizing pace) where
   pub had : (rolls : rolls_over sizing.rules ≡ false) (member blocks phase from : ℕ) → IsPace (begun pace phase from)
       → 1 ≤ blocks
       → InReplay (HadEvents (blocks_with sizing blocks) (events_at sizing pace member phase from)) sizing

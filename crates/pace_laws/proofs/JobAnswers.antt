@@ -6,13 +6,13 @@ use Rattle.deal_rules.specs.Times.{times_of}
 use Rattle.fanout_group.specs.Arrivals.{arrivals_at, arrivals_from, held_behind}
 use Rattle.fanout_group.specs.Plans.{has_defrag}
 use Rattle.frame_view.specs.declared.frames.Frame.{Frame}
-use Rattle.reader_pace.specs.declared.readers.Reader.{Reader}
+use Rattle.reader_pace.specs.declared.readers.PacedReader.{PacedReader}
 use Rattle.receive_ring.specs.Replay.{replayed}
 use Rattle.replay_laws.specs.LargerJobs.{IsReshaped, block_report, slot_report}
 use Rattle.replay_laws.proofs.LargerReports.{by_setup, of_blocks, of_slots}
 use Rattle.replay_machine.specs.Runs.{report_of}
 use Rattle.ring_model.specs.Rings.{Ring}
-use Rattle.ring_sizes.specs.declared.paces.Pace.{Pace}
+use Rattle.ring_sizes.specs.declared.paces.Timing.{Timing}
 use Rattle.run_reports.specs.Jobs.{rules_of}
 use Rattle.run_reports.specs.declared.reports.MemberReport.{MemberReport}
 use Rattle.run_reports.specs.declared.reports.RunReport.{RunReport}
@@ -38,13 +38,13 @@ same_counts defrag [] = refl
 same_counts defrag (frames ∷ captures) =
     cc (times_count frames ∙ sym (arrivals_count defrag [] frames), same_counts defrag captures)
 
-pub job_sizing : (room : ℕ) (job : Job) (reader : Reader) (captures : List (List Frame)) (pace : Pace)
+pub job_sizing : (room : ℕ) (job : Job) (reader : PacedReader) (captures : List (List Frame)) (pace : Timing)
     → reader.slots ≡ false → pace_of (time_out_of job.setup.shape) reader.pace ≡ Some pace
     → IsSizing (sizing_over room job reader captures) pace
 job_sizing room job reader captures pace blocks pace_is =
     record { blocks = blocks; times = same_counts (has_defrag job.setup.plan.flags) captures; pace_is = pace_is }
 
-pub job_slot_sizing : (room : ℕ) (job : Job) (reader : Reader) (captures : List (List Frame)) (pace : Pace)
+pub job_slot_sizing : (room : ℕ) (job : Job) (reader : PacedReader) (captures : List (List Frame)) (pace : Timing)
     → reader.slots ≡ true → pace_of (time_out_of job.setup.shape) reader.pace ≡ Some pace
     → IsSlotSizing (sizing_over room job reader captures) pace
 job_slot_sizing room job reader captures pace slots pace_is =
@@ -56,7 +56,7 @@ reported_notes reported [] same = refl
 reported_notes reported (ring ∷ rings) same = cc (same ring, reported_notes reported rings same)
 
 -- the notes of the other job's report, with so many blocks
-pub block_notes : (job other : Job) (reader : Reader) (lines : List Line) (all : List (List ℕ)) (ends : List CpuEnd)
+pub block_notes : (job other : Job) (reader : PacedReader) (lines : List Line) (all : List (List ℕ)) (ends : List CpuEnd)
     (blocks frames : ℕ) → IsReshaped blocks frames job other
     → map (λ (member : MemberReport). member.notes) (block_report other lines all ends).members
     ≡ map (λ (ring : Ring). ring.notes) (replayed (rules_of job) (blocks_with (sizing_of job reader all) blocks)
@@ -68,7 +68,7 @@ block_notes job other reader lines all ends blocks frames h =
     ∙ reported_notes _ _ (λ ring. refl)
 
 -- with so many slots
-pub slot_notes : (job other : Job) (reader : Reader) (lines : List Line) (all : List (List ℕ)) (ends : List CpuEnd)
+pub slot_notes : (job other : Job) (reader : PacedReader) (lines : List Line) (all : List (List ℕ)) (ends : List CpuEnd)
     (blocks slots : ℕ) → IsReshaped blocks slots job other
     → map (λ (member : MemberReport). member.notes) (slot_report other lines all ends).members
     ≡ map (λ (ring : Ring). ring.notes) (replayed (rules_of job) (slots_with (slot_sizing_of job reader all) slots)

@@ -11,7 +11,7 @@ use Rattle.reader_pace.specs.Timelines as lines
 use Rattle.reader_pace.specs.declared.paces.Stall as text_stalls
 use Rattle.ring_sizes.specs.Schedules.{IsPace, is_stalled, step_moment}
 use Rattle.ring_sizes.specs.declared.events.Event.TheVariants.{Tick, Read}
-use Rattle.ring_sizes.specs.declared.paces.Pace.{Pace}
+use Rattle.ring_sizes.specs.declared.paces.Timing.{Timing}
 use Rattle.pace_laws.specs.Paces.{stalls_of}
 use Rattle.pace_laws.proofs.Beats.{each, step_reads, steps_on, tick_of, ticks_on}
 use Rattle.pace_laws.proofs.Beats as beats
@@ -60,7 +60,7 @@ reads_append member (item ∷ items) more =
 
 -- ---- ticks
 
-module _ (pace : Pace) where
+module _ (pace : Timing) where
   pub ticks_made : (number : ℕ) → tick_stamps (ticks_to pace.tov pace.phase number) ≡ ticks_on pace 0 number
   ticks_made zero = refl
   ticks_made (suc number) =
@@ -164,7 +164,7 @@ one_unless true member moment n members h = refl
 one_unless false member moment n members h = one_member member moment n members h
 
 -- the steps of a text's reader whose moments are those of a pace
-module _ (stalls : List text_stalls.Stall) (pace : Pace) (blocks : ℕ) (moment_of : ℕ → ℕ)
+module _ (stalls : List text_stalls.Stall) (pace : Timing) (blocks : ℕ) (moment_of : ℕ → ℕ)
     (same : (step : ℕ) → moment_of step ≡ step_moment pace (step + 1)) (member members : ℕ) (inside : member < members) where
   abbrev pub often : ℕ
   often = each (stalls_of stalls) pace blocks

@@ -8,7 +8,7 @@ use Rattle.reader_pace.specs.Timelines.{Timed, end_of}
 use Rattle.reader_pace.specs.declared.paces.Stall as text_stalls
 use Rattle.ring_sizes.specs.Schedules.{IsPace, schedule_to, steps_before, ticks_by}
 use Rattle.ring_sizes.specs.declared.paces.Arrival.{Arrival}
-use Rattle.ring_sizes.specs.declared.paces.Pace.{Pace}
+use Rattle.ring_sizes.specs.declared.paces.Timing.{Timing}
 use Rattle.slot_sizes.specs.SlotSchedules.{slot_schedule_to}
 use Rattle.pace_laws.specs.Paces.{stalls_of}
 use Rattle.pace_laws.proofs.BeatKinds.{ComeIn, stamped_packets, stamped_reads, stamped_ticks}
@@ -30,7 +30,7 @@ rises_all all end run = rises_sooner 0 (3 * 0 + 1) all (omega arith) (rising (3 
 
 -- these reads are those of a pace
 module _ (rules : Rules) (room member : ℕ) (arriving : List (List (Option Frame))) (stalls : List text_stalls.Stall)
-    (pace : Pace) (sound : IsPace pace) (places : ℕ) (times : List (List ℕ)) (reads : List Timed)
+    (pace : Timing) (sound : IsPace pace) (places : ℕ) (times : List (List ℕ)) (reads : List Timed)
     (read_lines : All (λ item. is_read_line item.line ≡ true) reads) (read_rise : RiseFrom 0 reads)
     (reads_are : read_stamps member reads
     ≡ steps_on (stalls_of stalls) pace places 0 (steps_before pace (end_of times + 1))) where

@@ -19,7 +19,7 @@ use Rattle.ring_model.specs.declared.notes.Note.TheVariants as notes
 use Rattle.ring_model.specs.declared.notes.Stats.{Stats}
 use Rattle.ring_sizes.specs.Courses.{all_went_on, course_stats, first_course}
 use Rattle.ring_sizes.specs.Passes.{first_pass, passed_all}
-use Rattle.ring_sizes.specs.declared.paces.Pace.{Pace}
+use Rattle.ring_sizes.specs.declared.paces.Timing.{Timing}
 use Rattle.ring_sizes.proofs.Never.{all_grow, threshold_at}
 use Rattle.ring_sizes.proofs.Runs.{totals_at}
 use Rattle.run_reports.specs.RingSteps.{block_steps, slot_steps}
@@ -65,9 +65,9 @@ closed_slot_stretches state (note ∷ all) = closed_slot_stretches (slot_after s
 
 -- ---- rings of blocks
 
-pace_tov : (of : texts.Pace) (tov : ℕ) (pace : Pace) → pace_of tov of ≡ Some pace → pace.tov ≡ tov
-pace_tov (Pause period) tov pace e = ap (λ (pace : Pace). pace.tov) (sym (some_same _ pace e))
-pace_tov (Blocks count) tov pace e = ap (λ (pace : Pace). pace.tov) (sym (some_same _ pace e))
+pace_tov : (of : texts.Pace) (tov : ℕ) (pace : Timing) → pace_of tov of ≡ Some pace → pace.tov ≡ tov
+pace_tov (Pause period) tov pace e = ap (λ (pace : Timing). pace.tov) (sym (some_same _ pace e))
+pace_tov (Blocks count) tov pace e = ap (λ (pace : Timing). pace.tov) (sym (some_same _ pace e))
 pace_tov (Poll delay) tov pace e = cc
 
 -- the notes of a ring of blocks that is closed
@@ -78,7 +78,7 @@ block_notes size given ring e =
     ap (λ (ring : Ring). ring.notes) e
     ∙ ap (λ (ring : Ring). ring.notes ++ notes.Finished ∷ []) (as_blocks size given (fresh size))
 
-module _ (sizing : Sizing) (pace : Pace) (pace_is : pace_of sizing.tov sizing.reader.pace ≡ Some pace)
+module _ (sizing : Sizing) (pace : Timing) (pace_is : pace_of sizing.tov sizing.reader.pace ≡ Some pace)
     (member places phase from : ℕ) (ring : Ring) where
   tov_is : pace.tov ≡ sizing.tov
   tov_is = pace_tov sizing.reader.pace sizing.tov pace pace_is
@@ -108,7 +108,7 @@ module _ (sizing : Sizing) (pace : Pace) (pace_is : pace_of sizing.tov sizing.re
       ∙ sym (totals_at sizing.room places sizing.tov had.given events course had.events_are had.plain refl)
       ∙ ap (λ (tov : ℕ). course_stats (all_went_on sizing.room places tov events (first_course tov))) (sym tov_is)
 
-pub least_some : (sizing : Sizing) (pace : Pace) (member phase from : ℕ) → 1 ≤ least_at sizing pace member phase from
+pub least_some : (sizing : Sizing) (pace : Timing) (member phase from : ℕ) → 1 ≤ least_at sizing pace member phase from
 least_some sizing pace member phase from =
     all_grow sizing.room pace.tov (events_at sizing pace member phase from) (first_pass pace.tov)
 
@@ -131,7 +131,7 @@ slot_notes size given ring e =
     ap (λ (ring : Ring). ring.notes) e
     ∙ ap (λ (ring : Ring). ring.notes ++ notes.Finished ∷ []) (as_slots size given (fresh size))
 
-module _ (sizing : Sizing) (pace : Pace) (member places phase from : ℕ) (ring : Ring) where
+module _ (sizing : Sizing) (pace : Timing) (member places phase from : ℕ) (ring : Ring) where
   pub slots_free_iff : 1 ≤ places → HadEvents (slots_with sizing places) (slot_events_at sizing pace member phase from) ring
       → IsNeverHeld ring.notes ↔ (least_slots_by sizing pace member phase from ≤ places)
   slots_free_iff some had =
@@ -153,7 +153,7 @@ module _ (sizing : Sizing) (pace : Pace) (member places phase from : ℕ) (ring 
       ∙ sym (slots_runs.totals_at size had.given (slot_events_at sizing pace member phase from)
       (slot_stats_at sizing pace member places phase from) had.events_are had.plain refl)
 
-pub least_slots_some : (sizing : Sizing) (pace : Pace) (member phase from : ℕ)
+pub least_slots_some : (sizing : Sizing) (pace : Timing) (member phase from : ℕ)
     → 1 ≤ least_slots_by sizing pace member phase from
 least_slots_some sizing pace member phase from =
     slots.all_grow (slot_events_at sizing pace member phase from) first_slot_pass

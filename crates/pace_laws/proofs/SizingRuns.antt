@@ -13,7 +13,7 @@ use Rattle.reader_pace.proofs.Schedules.{lines_made, made_with}
 use Rattle.reader_pace.proofs.Timelines.{reads_to_all, ticks_to_all}
 use Rattle.ring_sizes.specs.Phases.{begun}
 use Rattle.ring_sizes.specs.Schedules.{IsPace, step_moment, steps_before, ticks_by}
-use Rattle.ring_sizes.specs.declared.paces.Pace.{Pace}
+use Rattle.ring_sizes.specs.declared.paces.Timing.{Timing}
 use Rattle.setup_text.specs.declared.lines.Line.{Line}
 use Rattle.pace_laws.specs.Paces.{pace_of, stalls_of}
 use Rattle.pace_laws.specs.Sizings.{IsSizing, IsSlotSizing, Sizing, blocks_with, events_at, judged_with, size_with}
@@ -31,23 +31,23 @@ use Rattle.pace_laws.proofs.StepCounts.{same_steps}
 use Rattle.pace_laws.proofs.TextReads.{text_reads}
 
 -- its rings are of slots, or of blocks
-pub record IsSizingOf (slots : Bool) (sizing : Sizing) (pace : Pace) : Type 0 where
+pub record IsSizingOf (slots : Bool) (sizing : Sizing) (pace : Timing) : Type 0 where
   pub kind : sizing.reader.slots ≡ slots
   pub times : map (λ times. length times) sizing.times ≡ map (λ waiting. length waiting) sizing.arriving
   pub pace_is : pace_of sizing.tov sizing.reader.pace ≡ Some pace
 
-pub of_blocks : (sizing : Sizing) (pace : Pace) → IsSizing sizing pace → IsSizingOf false sizing pace
+pub of_blocks : (sizing : Sizing) (pace : Timing) → IsSizing sizing pace → IsSizingOf false sizing pace
 of_blocks sizing pace h = record { kind = h.blocks; times = h.times; pace_is = h.pace_is }
 
-pub of_slots : (sizing : Sizing) (pace : Pace) → IsSlotSizing sizing pace → IsSizingOf true sizing pace
+pub of_slots : (sizing : Sizing) (pace : Timing) → IsSlotSizing sizing pace → IsSizingOf true sizing pace
 of_slots sizing pace h = record { kind = h.slots; times = h.times; pace_is = h.pace_is }
 
-module _ (slots : Bool) (sizing : Sizing) (pace : Pace) (sizing_is : IsSizingOf slots sizing pace) (places phase from : ℕ)
+module _ (slots : Bool) (sizing : Sizing) (pace : Timing) (sizing_is : IsSizingOf slots sizing pace) (places phase from : ℕ)
   where
     abbrev last_at : ℕ
     last_at = end_of sizing.times
 
-    abbrev at_pace : Pace
+    abbrev at_pace : Timing
     at_pace = begun pace phase from
 
     -- the lines of these ticks, feeds and reads
@@ -132,7 +132,7 @@ module _ (slots : Bool) (sizing : Sizing) (pace : Pace) (sizing_is : IsSizingOf 
 
 -- ---- rings of blocks
 
-pub blocks_had : (sizing : Sizing) (pace : Pace) (sizing_is : IsSizingOf false sizing pace) (blocks phase from member : ℕ)
+pub blocks_had : (sizing : Sizing) (pace : Timing) (sizing_is : IsSizingOf false sizing pace) (blocks phase from member : ℕ)
     → IsPace (begun pace phase from) → 1 ≤ blocks → (all : List Line)
     → schedule_at (judged_with sizing blocks) sizing.reader phase from ≡ Some all
     → AreHad sizing.rules (blocks_with sizing blocks) sizing.arriving member (events_at sizing pace member phase from) all
@@ -140,7 +140,7 @@ blocks_had sizing pace sizing_is blocks phase from member sound some =
     by_pace false sizing pace sizing_is blocks phase from
     (AreHad sizing.rules (blocks_with sizing blocks) sizing.arriving member (events_at sizing pace member phase from)) sound
     (λ moment_of steps are.
-    let paced : Pace = begun pace phase from in
+    let paced : Timing = begun pace phase from in
     let count = ticks_by paced (end_of sizing.times) in
     let ticks = ticks_to pace.tov phase count in
     let tick_lines = ticks_to_all (λ item. is_tick_line item.line ≡ true) pace.tov phase count (λ n one few. refl) in
@@ -155,7 +155,7 @@ blocks_had sizing pace sizing_is blocks phase from member sound some =
 
 -- ---- rings of slots
 
-pub slots_had : (sizing : Sizing) (pace : Pace) (sizing_is : IsSizingOf true sizing pace) (slots phase from member : ℕ)
+pub slots_had : (sizing : Sizing) (pace : Timing) (sizing_is : IsSizingOf true sizing pace) (slots phase from member : ℕ)
     → IsPace (begun pace phase from) → (all : List Line)
     → schedule_at (judged_with sizing slots) sizing.reader phase from ≡ Some all
     → AreHad sizing.rules (slots_with sizing slots) sizing.arriving member (slot_events_at sizing pace member phase from) all

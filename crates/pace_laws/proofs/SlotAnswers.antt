@@ -6,7 +6,7 @@ use Rattle.slot_layout.specs.SlotFates.{slot_totals_of}
 use Rattle.ring_events.specs.Happenings.{IsNeverHeld}
 use Rattle.ring_sizes.specs.Phases.{AreTried, IsFirst, IsFirstMost, begun}
 use Rattle.ring_sizes.specs.Schedules.{IsPace}
-use Rattle.ring_sizes.specs.declared.paces.Pace.{Pace}
+use Rattle.ring_sizes.specs.declared.paces.Timing.{Timing}
 use Rattle.ring_sizes.specs.declared.tries.Reached.{Reached}
 use Rattle.ring_sizes.specs.declared.tries.Tries.{Tries}
 use Rattle.pace_laws.specs.LeastRings.{AreDropsBy, AreLeastSlots, AreLeastSlotsOfGroup, group_slots_at, least_slots_by}
@@ -20,7 +20,7 @@ use Rattle.pace_laws.proofs.MemberRuns.{member_had, members_are}
 use Rattle.pace_laws.proofs.RingAnswers.{least_slots_some, slot_stats_are, slots_free_iff}
 use Rattle.pace_laws.proofs.SizingRuns.{of_slots, slots_had, some_lines}
 
-module _ (sizing : Sizing) (pace : Pace) (sizing_is : IsSlotSizing sizing pace) where
+module _ (sizing : Sizing) (pace : Timing) (sizing_is : IsSlotSizing sizing pace) where
   pub had : (rolls : rolls_over sizing.rules ≡ false) (member slots phase from : ℕ) → IsPace (begun pace phase from)
       → InReplay (HadEvents (slots_with sizing slots) (slot_events_at sizing pace member phase from)) sizing
       (slots_with sizing slots) member phase from

@@ -4,8 +4,8 @@ use Rattle.std.specs.Prelude.{map}
 use Rattle.ring_sizes.specs.Schedules.{IsPace, steps_before, steps_from}
 use Rattle.ring_sizes.specs.declared.events.Event.TheVariants.{Packet}
 use Rattle.ring_sizes.specs.declared.paces.Arrival.{Arrival}
-use Rattle.ring_sizes.specs.declared.paces.Pace.{Pace}
-use Rattle.ring_sizes.specs.declared.paces.Stall.{Stall}
+use Rattle.ring_sizes.specs.declared.paces.Timing.{Timing}
+use Rattle.ring_sizes.specs.declared.paces.StallTime.{StallTime}
 use Rattle.slot_sizes.specs.SlotSchedules.{slot_schedule_from}
 use Rattle.pace_laws.proofs.BeatKinds.{ComeIn, all_by, in_join, later_one, steps_are}
 use Rattle.pace_laws.proofs.BeatOrder.{in_run}
@@ -15,7 +15,7 @@ use Rattle.pace_laws.proofs.Orders.{of_kind}
 use Rattle.pace_laws.proofs.Orders.{runs_on}
 use Rattle.pace_laws.proofs.Spreads.{events_in, spread}
 
-module _ (stalls : List Stall) (pace : Pace) (slots : ℕ) where
+module _ (stalls : List StallTime) (pace : Timing) (slots : ℕ) where
   abbrev in_time : ℕ → ℕ → List Stamped
   in_time since at = steps_in stalls pace slots since at
 

@@ -8,7 +8,7 @@ use Rattle.reader_pace.specs.Timelines.{block_step, block_steps, pause_step, pau
 use Rattle.reader_pace.specs.Timelines as lines
 use Rattle.reader_pace.specs.declared.paces.Stall as text_stalls
 use Rattle.ring_sizes.specs.Schedules.{IsPace, is_stalled, step_moment, steps_before, ticks_by}
-use Rattle.ring_sizes.specs.declared.paces.Pace.{Pace}
+use Rattle.ring_sizes.specs.declared.paces.Timing.{Timing}
 use Rattle.ring_sizes.proofs.Counts.{step_comes, tick_comes}
 use Rattle.pace_laws.specs.Paces.{stalls_of}
 
@@ -39,7 +39,7 @@ same_number one other there back = by_case (cases_lt one other) (cases_lt other 
   by_case (inr h) (inr k) = omega (arith, h, k)
 
 -- as many steps come by the end, whose moments are those of a pace
-pub same_steps : (pace : Pace) (moment_of : ℕ → ℕ) (end count : ℕ) → IsPace pace
+pub same_steps : (pace : Timing) (moment_of : ℕ → ℕ) (end count : ℕ) → IsPace pace
     → ((step : ℕ) → moment_of step ≡ step_moment pace (step + 1))
     → ((step : ℕ) → (moment_of step ≤ end) ↔ (step < count)) → count ≡ steps_before pace (end + 1)
 same_steps pace moment_of end count sound same counted =
@@ -69,14 +69,14 @@ block_moment count from step =
     ap (λ (n : ℕ). from * 1000000 + n * 1000000000 / count) (sym spans)
 
 -- nothing comes before the first frame
-pub no_tick : (pace : Pace) → IsPace pace → ticks_by pace 0 ≡ 0
+pub no_tick : (pace : Timing) → IsPace pace → ticks_by pace 0 ≡ 0
 no_tick pace sound =
     same_number (ticks_by pace 0) 0
     (λ n few.
     let first = (tick_comes pace 0 1 sound.tov).0 (omega (arith, few)) in absurd (omega (arith, first, sound.phase)))
     (λ n few. absurd (omega (arith, few)))
 
-pub no_step : (pace : Pace) → IsPace pace → steps_before pace 0 ≡ 0
+pub no_step : (pace : Timing) → IsPace pace → steps_before pace 0 ≡ 0
 no_step pace sound =
     same_number (steps_before pace 0) 0
     (λ n few.

@@ -8,14 +8,14 @@ use Rattle.reader_pace.specs.declared.paces.Stall as text_stalls
 use Rattle.reader_pace.proofs.Ends.{blocks_end, pauses_end}
 use Rattle.ring_sizes.specs.Phases.{begun}
 use Rattle.ring_sizes.specs.Schedules.{IsPace, step_moment}
-use Rattle.ring_sizes.specs.declared.paces.Pace.{Pace}
+use Rattle.ring_sizes.specs.declared.paces.Timing.{Timing}
 use Rattle.setup_text.proofs.PassedTests.{some_same}
 use Rattle.pace_laws.specs.Paces.{pace_of, stalls_of}
 use Rattle.pace_laws.proofs.Beats.{each}
 use Rattle.pace_laws.proofs.StepCounts.{block_moment, pause_moment}
 
 -- these reads are those of a pace, by the end
-pub record ReadsAre (stalls : List text_stalls.Stall) (pace : Pace) (blocks members end tov phase : ℕ) (reads : List Timed)
+pub record ReadsAre (stalls : List text_stalls.Stall) (pace : Timing) (blocks members end tov phase : ℕ) (reads : List Timed)
     : Type 0 where
   pub tov_is : pace.tov ≡ tov
   pub phase_is : pace.phase ≡ phase
@@ -30,7 +30,7 @@ pub text_reads : (of : texts.Pace) (stalls : List text_stalls.Stall) (tov blocks
     → pace_of tov of ≡ Some pace → IsPace (begun pace phase from) → reads_of of stalls blocks members from end ≡ Some reads
     → ReadsAre stalls (begun pace phase from) blocks members end tov phase reads
 text_reads (Pause period) stalls tov blocks members phase from end pace reads e sound h =
-    subst (λ (pace : Pace). IsPace (begun pace phase from)
+    subst (λ (pace : Timing). IsPace (begun pace phase from)
     → ReadsAre stalls (begun pace phase from) blocks members end tov phase reads) (some_same _ pace e)
     (λ sound. record {
       tov_is = refl;
@@ -42,7 +42,7 @@ text_reads (Pause period) stalls tov blocks members phase from end pace reads e 
       counted = λ step. pauses_end period from step end (omega (arith, sound.span));
     }) sound
 text_reads (Blocks count) stalls tov blocks members phase from end pace reads e sound h =
-    subst (λ (pace : Pace). IsPace (begun pace phase from)
+    subst (λ (pace : Timing). IsPace (begun pace phase from)
     → ReadsAre stalls (begun pace phase from) blocks members end tov phase reads) (some_same _ pace e)
     (λ sound. record {
       tov_is = refl;

@@ -11,7 +11,7 @@ use Rattle.ring_model.specs.declared.notes.Note.{Note}
 use Rattle.ring_model.specs.declared.notes.Stats.{Stats}
 use Rattle.ring_sizes.specs.Courses.{all_went_on, course_stats, first_course}
 use Rattle.ring_sizes.specs.Phases.{IsBeginning, IsEarlier, IsPhase, begun, drops_of, least_of}
-use Rattle.ring_sizes.specs.declared.paces.Pace.{Pace}
+use Rattle.ring_sizes.specs.declared.paces.Timing.{Timing}
 use Rattle.ring_sizes.specs.declared.tries.Reached.{Reached}
 use Rattle.ring_sizes.specs.declared.tries.Tries.{Tries}
 use Rattle.run_reports.specs.RingSteps.{RingSteps}
@@ -22,36 +22,36 @@ use Rattle.slot_sizes.specs.SlotSchedules.{least_slots_of, slot_drops_of}
 -- ---- what the passes report at a phase and a beginning
 
 -- the number of blocks that a pass over a member's frames reports
-abbrev pub least_at : Sizing → Pace → ℕ → ℕ → ℕ → ℕ
+abbrev pub least_at : Sizing → Timing → ℕ → ℕ → ℕ → ℕ
 least_at sizing pace member phase from =
     least_of sizing.room (stalls_of sizing.reader.stalls) (begun pace phase from)
     (given_to sizing member) (end_of sizing.times)
 
 -- the number of slots
-abbrev pub least_slots_by : Sizing → Pace → ℕ → ℕ → ℕ → ℕ
+abbrev pub least_slots_by : Sizing → Timing → ℕ → ℕ → ℕ → ℕ
 least_slots_by sizing pace member phase from =
     least_slots_of (stalls_of sizing.reader.stalls) (begun pace phase from)
     (given_to sizing member) (end_of sizing.times)
 
 -- the statistics that a course over them reports, for so many blocks
-abbrev pub stats_at : Sizing → Pace → ℕ → ℕ → ℕ → ℕ → Stats
+abbrev pub stats_at : Sizing → Timing → ℕ → ℕ → ℕ → ℕ → Stats
 stats_at sizing pace member blocks phase from =
     course_stats (all_went_on sizing.room blocks pace.tov (events_at sizing pace member phase from)
     (first_course pace.tov))
 
 -- and the packets that it drops
-abbrev pub drops_at : Sizing → Pace → ℕ → ℕ → ℕ → ℕ → ℕ
+abbrev pub drops_at : Sizing → Timing → ℕ → ℕ → ℕ → ℕ → ℕ
 drops_at sizing pace member blocks phase from =
     drops_of sizing.room blocks (stalls_of sizing.reader.stalls) (begun pace phase from)
     (given_to sizing member) (end_of sizing.times)
 
 -- the same for so many slots
-abbrev pub slot_stats_at : Sizing → Pace → ℕ → ℕ → ℕ → ℕ → Stats
+abbrev pub slot_stats_at : Sizing → Timing → ℕ → ℕ → ℕ → ℕ → Stats
 slot_stats_at sizing pace member slots phase from =
     slot_course_stats (all_slots_went_on slots (slot_events_at sizing pace member phase from)
     first_slot_course)
 
-abbrev pub slot_drops_at : Sizing → Pace → ℕ → ℕ → ℕ → ℕ → ℕ
+abbrev pub slot_drops_at : Sizing → Timing → ℕ → ℕ → ℕ → ℕ → ℕ
 slot_drops_at sizing pace member slots phase from =
     slot_drops_of slots (stalls_of sizing.reader.stalls) (begun pace phase from)
     (given_to sizing member) (end_of sizing.times)
@@ -92,11 +92,11 @@ greatest_of number_of zero = 0
 greatest_of number_of (suc member) = max (greatest_of number_of member) (number_of member)
 
 -- the greatest number that the passes over the members' frames report at a phase and a beginning
-abbrev pub group_least_at : Sizing → Pace → ℕ → ℕ → ℕ
+abbrev pub group_least_at : Sizing → Timing → ℕ → ℕ → ℕ
 group_least_at sizing pace phase from =
     greatest_of (λ member. least_at sizing pace member phase from) sizing.rules.members
 
-abbrev pub group_slots_at : Sizing → Pace → ℕ → ℕ → ℕ
+abbrev pub group_slots_at : Sizing → Timing → ℕ → ℕ → ℕ
 group_slots_at sizing pace phase from =
     greatest_of (λ member. least_slots_by sizing pace member phase from) sizing.rules.members
 

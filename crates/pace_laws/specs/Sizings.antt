@@ -5,7 +5,7 @@ use Rattle.fanout_group.specs.Rules.{Rules}
 use Rattle.frame_view.specs.declared.frames.Frame.{Frame}
 use Rattle.pace_laws.specs.Paces.{pace_of, stalls_of}
 use Rattle.reader_pace.specs.Timelines.{Judged, end_of, feeds_of, in_order, schedule_at}
-use Rattle.reader_pace.specs.declared.readers.Reader.{Reader}
+use Rattle.reader_pace.specs.declared.readers.PacedReader.{PacedReader}
 use Rattle.receive_ring.specs.Replay.{replayed}
 use Rattle.replay_laws.specs.Alone.{alone}
 use Rattle.ring_events.specs.Happenings.{IsPlain}
@@ -17,7 +17,7 @@ use Rattle.ring_sizes.specs.Phases.{begun}
 use Rattle.ring_sizes.specs.Schedules.{schedule_to}
 use Rattle.ring_sizes.specs.declared.events.Event.{Event}
 use Rattle.ring_sizes.specs.declared.paces.Arrival.{Arrival}
-use Rattle.ring_sizes.specs.declared.paces.Pace.{Pace}
+use Rattle.ring_sizes.specs.declared.paces.Timing.{Timing}
 use Rattle.run_reports.specs.RingSteps.{RingSteps, block_steps, slot_steps}
 use Rattle.setup_text.specs.declared.lines.Line.{Line}
 use Rattle.slot_sizes.specs.SlotSchedules.{slot_schedule_to}
@@ -31,10 +31,10 @@ pub record Sizing : Type 0 where
   pub tov : ℕ
   pub arriving : List (List (Option Frame))
   pub times : List (List ℕ)
-  pub reader : Reader
+  pub reader : PacedReader
 
 -- its rings are of blocks; it has a time for each frame; this is the pace of its reader
-pub record IsSizing (sizing : Sizing) (pace : Pace) : Type 0 where
+pub record IsSizing (sizing : Sizing) (pace : Timing) : Type 0 where
   pub blocks : sizing.reader.slots ≡ false
   pub times : map (λ times. length times) sizing.times
       ≡ map (λ waiting. length waiting) sizing.arriving
@@ -42,7 +42,7 @@ pub record IsSizing (sizing : Sizing) (pace : Pace) : Type 0 where
 
 -- its rings are of slots: its time-out, which isn't 0, has no meaning, and its room is that of a
 -- block that would keep as much of a packet as a slot
-pub record IsSlotSizing (sizing : Sizing) (pace : Pace) : Type 0 where
+pub record IsSlotSizing (sizing : Sizing) (pace : Timing) : Type 0 where
   pub slots : sizing.reader.slots ≡ true
   pub times : map (λ times. length times) sizing.times
       ≡ map (λ waiting. length waiting) sizing.arriving
@@ -93,13 +93,13 @@ given_to sizing member =
     (marked sizing.rules sizing.room 0 sizing.arriving (in_order (feeds_of sizing.times)))
 
 -- the events of a member's ring of blocks
-abbrev pub events_at : Sizing → Pace → ℕ → ℕ → ℕ → List Event
+abbrev pub events_at : Sizing → Timing → ℕ → ℕ → ℕ → List Event
 events_at sizing pace member phase from =
     schedule_to (stalls_of sizing.reader.stalls) (begun pace phase from) (given_to sizing member)
     (end_of sizing.times)
 
 -- and of slots
-abbrev pub slot_events_at : Sizing → Pace → ℕ → ℕ → ℕ → List Event
+abbrev pub slot_events_at : Sizing → Timing → ℕ → ℕ → ℕ → List Event
 slot_events_at sizing pace member phase from =
     slot_schedule_to (stalls_of sizing.reader.stalls) (begun pace phase from)
     (given_to sizing member) (end_of sizing.times)

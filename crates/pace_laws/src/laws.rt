@@ -11,7 +11,7 @@ ghost use Rattle.ring_events.specs.Happenings.{IsNeverHeld};
 ghost use Rattle.ring_model.specs.Fates.{totals_of};
 ghost use Rattle.ring_sizes.specs.Phases.{AreTried, IsFirstFewest, IsFirstMost, begun};
 ghost use Rattle.ring_sizes.specs.Schedules.{IsPace};
-ghost use Rattle.ring_sizes.specs.declared.paces.Pace.{Pace};
+ghost use Rattle.ring_sizes.specs.declared.paces.Timing.{Timing};
 ghost use Rattle.ring_sizes.specs.declared.tries.Reached.{Reached};
 ghost use Rattle.ring_sizes.specs.declared.tries.Tries.{Tries};
 
@@ -19,10 +19,10 @@ ghost use Rattle.ring_sizes.specs.declared.tries.Tries.{Tries};
 /// of blocks (clause `group`), and without rollover each member has a ring in the replay by it
 /// (clause `member`).
 pub fn each_member_has_a_replay()
-    ensures group { (sizing : Sizing) (pace : Pace) (blocks phase from : ℕ)
+    ensures group { (sizing : Sizing) (pace : Timing) (blocks phase from : ℕ)
         → IsSizing sizing pace
         → InGroup (λ rings. ⊥) sizing (blocks_with sizing blocks) phase from → ⊥ }
-    ensures member { (sizing : Sizing) (pace : Pace) (member blocks phase from : ℕ)
+    ensures member { (sizing : Sizing) (pace : Timing) (member blocks phase from : ℕ)
         → rolls_over sizing.rules ≡ false
         → IsSizing sizing pace → IsPace (begun pace phase from) → 1 ≤ blocks
         → member < sizing.rules.members
@@ -34,7 +34,7 @@ pub fn each_member_has_a_replay()
 /// members are given, and however many blocks the ring has. A reader that takes all that is there
 /// reads as often as the ring has blocks, which does to the ring what reading all does.
 pub fn a_member_runs_by_its_schedule()
-    ensures { (sizing : Sizing) (pace : Pace) (member blocks phase from : ℕ)
+    ensures { (sizing : Sizing) (pace : Timing) (member blocks phase from : ℕ)
         → rolls_over sizing.rules ≡ false
         → IsSizing sizing pace → IsPace (begun pace phase from) → 1 ≤ blocks
         → let steps = blocks_with sizing blocks in
@@ -45,7 +45,7 @@ pub fn a_member_runs_by_its_schedule()
 /// A member's ring never finds a block still the reader's exactly where it has as many blocks as
 /// the pass over the member's frames reports, or more.
 pub fn a_pass_decides_whether_a_member_freezes()
-    ensures { (sizing : Sizing) (pace : Pace) (member blocks phase from : ℕ)
+    ensures { (sizing : Sizing) (pace : Timing) (member blocks phase from : ℕ)
         → rolls_over sizing.rules ≡ false
         → IsSizing sizing pace → IsPace (begun pace phase from) → 1 ≤ blocks
         → InReplay
@@ -56,7 +56,7 @@ pub fn a_pass_decides_whether_a_member_freezes()
 /// The statistics over the whole run of a member's ring are those that the course over the member's
 /// frames reports.
 pub fn a_course_counts_what_a_member_counts()
-    ensures { (sizing : Sizing) (pace : Pace) (member blocks phase from : ℕ)
+    ensures { (sizing : Sizing) (pace : Timing) (member blocks phase from : ℕ)
         → rolls_over sizing.rules ≡ false
         → IsSizing sizing pace → IsPace (begun pace phase from) → 1 ≤ blocks
         → InReplay
@@ -69,7 +69,7 @@ pub fn a_course_counts_what_a_member_counts()
 /// that are tried is the member's least ring in the replays of the group, and the first phase and
 /// beginning at which a pass reports it are the first that need it.
 pub fn the_greatest_of_the_passes_is_the_least_ring()
-    ensures { (sizing : Sizing) (pace : Pace) (tries : Tries) (found : Reached) (member : ℕ)
+    ensures { (sizing : Sizing) (pace : Timing) (tries : Tries) (found : Reached) (member : ℕ)
         → rolls_over sizing.rules ≡ false
         → IsSizing sizing pace → AreTried pace tries → tries.from_end ≤ 2 ^ 32
         → member < sizing.rules.members
@@ -81,7 +81,7 @@ pub fn the_greatest_of_the_passes_is_the_least_ring()
 /// each of the passes over the members' frames reports, or more: with rollover too, since nothing
 /// rolls over before something is held.
 pub fn passes_decide_whether_a_group_freezes()
-    ensures { (sizing : Sizing) (pace : Pace) (blocks phase from : ℕ)
+    ensures { (sizing : Sizing) (pace : Timing) (blocks phase from : ℕ)
         → IsSizing sizing pace → IsPace (begun pace phase from) → 1 ≤ blocks
         → InGroup
         (λ rings. All (λ ring. IsNeverHeld ring.notes) rings
@@ -93,7 +93,7 @@ pub fn passes_decide_whether_a_group_freezes()
 /// beginnings that are tried is the group's least ring, and the first phase and beginning at which
 /// one reports it are the first that need it.
 pub fn the_greatest_of_all_passes_is_the_least_ring_of_the_group()
-    ensures { (sizing : Sizing) (pace : Pace) (tries : Tries) (found : Reached)
+    ensures { (sizing : Sizing) (pace : Timing) (tries : Tries) (found : Reached)
         → IsSizing sizing pace → AreTried pace tries → tries.from_end ≤ 2 ^ 32
         → IsFirstMost tries (group_least_at sizing pace) found
         → IsLeastOfGroup sizing tries found }
@@ -102,13 +102,13 @@ pub fn the_greatest_of_all_passes_is_the_least_ring_of_the_group()
 /// The most and the fewest packets that the courses over a member's frames drop are those that the
 /// member drops in the replays of the group.
 pub fn the_drops_of_courses_are_those_of_replays()
-    ensures most { (sizing : Sizing) (pace : Pace) (tries : Tries) (found : Reached)
+    ensures most { (sizing : Sizing) (pace : Timing) (tries : Tries) (found : Reached)
         (member blocks : ℕ)
         → rolls_over sizing.rules ≡ false
         → IsSizing sizing pace → AreTried pace tries → tries.from_end ≤ 2 ^ 32 → 1 ≤ blocks
         → IsFirstMost tries (drops_at sizing pace member blocks) found
         → AreMostDrops sizing member blocks tries found }
-    ensures fewest { (sizing : Sizing) (pace : Pace) (tries : Tries) (found : Reached)
+    ensures fewest { (sizing : Sizing) (pace : Timing) (tries : Tries) (found : Reached)
         (member blocks : ℕ)
         → rolls_over sizing.rules ≡ false
         → IsSizing sizing pace → AreTried pace tries → tries.from_end ≤ 2 ^ 32 → 1 ≤ blocks

@@ -12,7 +12,7 @@ ghost use Rattle.pace_laws.specs.Sizings.{slot_events_at, slots_with};
 ghost use Rattle.ring_events.specs.Happenings.{IsNeverHeld};
 ghost use Rattle.ring_sizes.specs.Phases.{AreTried, IsFirstFewest, IsFirstMost, begun};
 ghost use Rattle.ring_sizes.specs.Schedules.{IsPace};
-ghost use Rattle.ring_sizes.specs.declared.paces.Pace.{Pace};
+ghost use Rattle.ring_sizes.specs.declared.paces.Timing.{Timing};
 ghost use Rattle.ring_sizes.specs.declared.tries.Reached.{Reached};
 ghost use Rattle.ring_sizes.specs.declared.tries.Tries.{Tries};
 ghost use Rattle.slot_layout.specs.SlotFates.{slot_totals_of};
@@ -21,10 +21,10 @@ ghost use Rattle.slot_layout.specs.SlotFates.{slot_totals_of};
 /// for any number of slots (clause `group`), and without rollover each member has a ring in the
 /// replay by it (clause `member`).
 pub fn each_member_over_slots_has_a_replay()
-    ensures group { (sizing : Sizing) (pace : Pace) (slots phase from : ℕ)
+    ensures group { (sizing : Sizing) (pace : Timing) (slots phase from : ℕ)
         → IsSlotSizing sizing pace
         → InGroup (λ rings. ⊥) sizing (slots_with sizing slots) phase from → ⊥ }
-    ensures member { (sizing : Sizing) (pace : Pace) (member slots phase from : ℕ)
+    ensures member { (sizing : Sizing) (pace : Timing) (member slots phase from : ℕ)
         → rolls_over sizing.rules ≡ false
         → IsSlotSizing sizing pace → IsPace (begun pace phase from)
         → member < sizing.rules.members
@@ -36,7 +36,7 @@ pub fn each_member_over_slots_has_a_replay()
 /// takes all that is there reads as often as the ring has slots, which does to the ring what
 /// reading all does.
 pub fn a_member_over_slots_runs_by_its_schedule()
-    ensures { (sizing : Sizing) (pace : Pace) (member slots phase from : ℕ)
+    ensures { (sizing : Sizing) (pace : Timing) (member slots phase from : ℕ)
         → rolls_over sizing.rules ≡ false
         → IsSlotSizing sizing pace → IsPace (begun pace phase from)
         → let steps = slots_with sizing slots in
@@ -47,7 +47,7 @@ pub fn a_member_over_slots_runs_by_its_schedule()
 /// A member's ring never finds a slot still the reader's, and so loses nothing, exactly where it
 /// has as many slots as the pass over the member's frames reports, or more.
 pub fn a_slot_pass_decides_whether_a_member_loses()
-    ensures { (sizing : Sizing) (pace : Pace) (member slots phase from : ℕ)
+    ensures { (sizing : Sizing) (pace : Timing) (member slots phase from : ℕ)
         → rolls_over sizing.rules ≡ false
         → IsSlotSizing sizing pace → IsPace (begun pace phase from) → 1 ≤ slots
         → InReplay
@@ -58,7 +58,7 @@ pub fn a_slot_pass_decides_whether_a_member_loses()
 /// The statistics over the whole run of a member's ring of slots are those that the course over the
 /// member's frames reports.
 pub fn a_slot_course_counts_what_a_member_counts()
-    ensures { (sizing : Sizing) (pace : Pace) (member slots phase from : ℕ)
+    ensures { (sizing : Sizing) (pace : Timing) (member slots phase from : ℕ)
         → rolls_over sizing.rules ≡ false
         → IsSlotSizing sizing pace → IsPace (begun pace phase from)
         → InReplay
@@ -70,7 +70,7 @@ pub fn a_slot_course_counts_what_a_member_counts()
 /// tried is the member's least number of slots in the replays of the group, and the first beginning
 /// at which a pass reports it is the first that needs it.
 pub fn the_greatest_of_the_slot_passes_is_the_least_number()
-    ensures { (sizing : Sizing) (pace : Pace) (tries : Tries) (found : Reached) (member : ℕ)
+    ensures { (sizing : Sizing) (pace : Timing) (tries : Tries) (found : Reached) (member : ℕ)
         → rolls_over sizing.rules ≡ false
         → IsSlotSizing sizing pace → AreTried pace tries → tries.from_end ≤ 2 ^ 32
         → member < sizing.rules.members
@@ -81,7 +81,7 @@ pub fn the_greatest_of_the_slot_passes_is_the_least_number()
 /// No ring of the group finds a slot still the reader's exactly where there are as many slots as
 /// each of the passes over the members' frames reports, or more: with rollover too.
 pub fn slot_passes_decide_whether_a_group_loses()
-    ensures { (sizing : Sizing) (pace : Pace) (slots phase from : ℕ)
+    ensures { (sizing : Sizing) (pace : Timing) (slots phase from : ℕ)
         → IsSlotSizing sizing pace → IsPace (begun pace phase from) → 1 ≤ slots
         → InGroup
         (λ rings. All (λ ring. IsNeverHeld ring.notes) rings
@@ -92,7 +92,7 @@ pub fn slot_passes_decide_whether_a_group_loses()
 /// So the greatest number that the passes over all members' frames report at the beginnings that
 /// are tried is the group's least number of slots.
 pub fn the_greatest_of_all_slot_passes_is_the_least_number_of_the_group()
-    ensures { (sizing : Sizing) (pace : Pace) (tries : Tries) (found : Reached)
+    ensures { (sizing : Sizing) (pace : Timing) (tries : Tries) (found : Reached)
         → IsSlotSizing sizing pace → AreTried pace tries → tries.from_end ≤ 2 ^ 32
         → IsFirstMost tries (group_slots_at sizing pace) found
         → AreLeastSlotsOfGroup sizing tries found }
@@ -101,13 +101,13 @@ pub fn the_greatest_of_all_slot_passes_is_the_least_number_of_the_group()
 /// The most and the fewest packets that the courses over a member's frames drop are those that the
 /// member drops in the replays of the group over rings of slots.
 pub fn the_drops_of_slot_courses_are_those_of_replays()
-    ensures most { (sizing : Sizing) (pace : Pace) (tries : Tries) (found : Reached)
+    ensures most { (sizing : Sizing) (pace : Timing) (tries : Tries) (found : Reached)
         (member slots : ℕ)
         → rolls_over sizing.rules ≡ false
         → IsSlotSizing sizing pace → AreTried pace tries → tries.from_end ≤ 2 ^ 32
         → IsFirstMost tries (slot_drops_at sizing pace member slots) found
         → AreMostSlotDrops sizing member slots tries found }
-    ensures fewest { (sizing : Sizing) (pace : Pace) (tries : Tries) (found : Reached)
+    ensures fewest { (sizing : Sizing) (pace : Timing) (tries : Tries) (found : Reached)
         (member slots : ℕ)
         → rolls_over sizing.rules ≡ false
         → IsSlotSizing sizing pace → AreTried pace tries → tries.from_end ≤ 2 ^ 32

@@ -1,10 +1,10 @@
 -- How a capture ends, by the stage of its decoder.
 use Rattle.pcapng_blocks.proofs.Names.{◌≡◌, ℕ, ◌+◌, ◌≤◌, ◌<◌, Bool, eqb, List, [], length, refl, sym, ap, ◌∙◌, inl, inr, arith}
 use Rattle.pcapng_blocks.proofs.Names.{◌≢◌, None, Some, cases_Bool, cases_lt, le-ltb, lt-ltb, eqb-true, eqb-false, length-take}
-use Rattle.pcapng_blocks.proofs.Names.{Little, BlockError, Truncated, Look, Short, Bad, Headed, Stage, look_at, is_skipped}
+use Rattle.pcapng_blocks.proofs.Names.{Little, BlockError, Truncated, Look, Short, Bad, Headed, BlockStage, look_at, is_skipped}
 use Rattle.pcapng_blocks.proofs.Names.{Spot, counted, origin, reached_in, stop_of, damage_of, end_of, waiting, rest_in, IsKept}
 use Rattle.pcapng_blocks.proofs.Names.{IsPart, IsSoundAt, stage_of, kept_of, end_at, Represents}
-use Rattle.pcapng_blocks.specs.declared.stage.Stage.TheVariants as stages
+use Rattle.pcapng_blocks.specs.declared.stage.BlockStage.TheVariants as stages
 use Rattle.pcapng_blocks.proofs.HeadLooks.{look_at-there, look_head}
 use Rattle.pcapng_blocks.proofs.FrontBlocks.{front_bad, front_empty, part_short}
 use Rattle.pcapng_blocks.proofs.Splits.{split_part, accounts}
@@ -82,7 +82,7 @@ module _ (fed : List ℕ) (stop : ℕ) (rest : List ℕ) (place : stop ≡ stop_
       ]
 
   -- the stage, its place and whether bytes are kept determine the end
-  pub end_told : (stage : Stage) (none : Bool) → stage ≡ stage_of fed → rest ≡ kept_of fed → none ≡ eqb (length rest) 0
+  pub end_told : (stage : BlockStage) (none : Bool) → stage ≡ stage_of fed → rest ≡ kept_of fed → none ≡ eqb (length rest) 0
       → end_at stage stop none ≡ end_of fed
   end_told stage none at all is =
       elim (stage_is fed) [
@@ -91,7 +91,7 @@ module _ (fed : List ℕ) (stop : ℕ) (rest : List ℕ) (place : stop ≡ stop_
         | fine e few told d ↦
             let left = (reached_in 0 fed).left in
             let look = look_at (reached_in 0 fed).spot.order (reached_in 0 fed).spot.stop left in
-            rw (at, told) (end_waiting none look d few refl (all ∙ ap (λ (s : Stage). rest_in s left) told) is)
+            rw (at, told) (end_waiting none look d few refl (all ∙ ap (λ (s : BlockStage). rest_in s left) told) is)
       ]
 
 -- ---- how many bytes are kept
@@ -115,7 +115,7 @@ part_few spot rest (Headed head) part e =
           omega (arith, is.few reads)
     ]
 
-pub few_kept : (stage : Stage) (spot : Spot) (rest : List ℕ) (fed : ℕ) → IsKept stage spot rest fed → length rest ≤ 524287
+pub few_kept : (stage : BlockStage) (spot : Spot) (rest : List ℕ) (fed : ℕ) → IsKept stage spot rest fed → length rest ≤ 524287
 few_kept stages.Blocks spot rest fed kept = part_few spot rest (look_at spot.order spot.stop rest) kept.0 refl
 few_kept (stages.Skipping skip) spot rest fed kept = omega (arith, kept.0.few)
 few_kept (stages.Damaged error) spot rest fed kept = omega (arith, ap length kept.0)

@@ -2,14 +2,14 @@
 use Rattle.pcapng_blocks.proofs.Names.{◌≡◌, ℕ, zero, suc, ◌+◌, ◌-◌, ◌*◌, ◌≤◌, ◌<◌, List, [], ◌∷◌, ◌++◌, length, take, drop}
 use Rattle.pcapng_blocks.proofs.Names.{refl, sym, ap, subst, ◌∙◌, arith, zero-add, true, slice_get, Option, None, Some, IsSome}
 use Rattle.pcapng_blocks.proofs.Names.{IfSome, sum_by, lt-ltb, append-nil, length-append, length-drop, length-take, Frame}
-use Rattle.pcapng_blocks.proofs.Names.{BlockError, TooLarge, Head, Captured, Meaning, Look, Stage, frame_of, frames_in}
+use Rattle.pcapng_blocks.proofs.Names.{BlockError, TooLarge, Head, Captured, Meaning, Look, BlockStage, frame_of, frames_in}
 use Rattle.pcapng_blocks.proofs.Names.{IsWithin, Spot, Reached, spot_after, split_from, look_at, counted, origin, reached_in}
 use Rattle.pcapng_blocks.proofs.Names.{frames_of, stop_of, skips, is_skipping, damage_of, end_of, waiting, rest_in, stage_of}
 use Rattle.pcapng_blocks.proofs.Names.{kept_of, IsPacketFrame}
 use Rattle.std.proofs.lemmas.List.Sums.{sum_by-append, sum_by-cons}
 use Rattle.pcapng_blocks.specs.declared.bodies.Meaning.TheVariants as meanings
 use Rattle.pcapng_blocks.specs.declared.heads.Look.TheVariants as looks
-use Rattle.pcapng_blocks.specs.declared.stage.Stage.TheVariants as stages
+use Rattle.pcapng_blocks.specs.declared.stage.BlockStage.TheVariants as stages
 use Rattle.pcapng_blocks.proofs.Told.{IsCapturedPacket, IsPacket}
 use Rattle.pcapng_blocks.proofs.FrontBlocks.{front_block, part_short}
 use Rattle.pcapng_blocks.proofs.Splits.{by_blocks, stop_after, Accounts, accounts, split_frames}
@@ -218,7 +218,7 @@ frames_bytes number bytes =
     let stop = same_stop number bytes in
     omega (arith, told, stop)
 
-rest_few : (stage : Stage) (left : List ℕ) → length (rest_in stage left) ≤ length left
+rest_few : (stage : BlockStage) (left : List ℕ) → length (rest_in stage left) ≤ length left
 rest_few stages.Blocks left = omega arith
 rest_few (stages.Skipping skip) left = omega (arith, length-drop (skip.head.total - 4) left)
 rest_few (stages.Damaged error) left = omega arith

@@ -33,7 +33,7 @@ pub use Rattle.pcapng_blocks.specs.Numbers.{padded}
 unfoldable pub use Rattle.pcapng_blocks.specs.Numbers.{number_at}
 pub use Rattle.pcapng_blocks.specs.declared.block_reader.Cursor.{Cursor}
 pub use Rattle.pcapng_blocks.specs.declared.block_reader.Held.{Held}
-pub use Rattle.pcapng_blocks.specs.declared.block_reader.Progress.{Progress}
+pub use Rattle.pcapng_blocks.specs.declared.block_reader.BlockProgress.{BlockProgress}
 pub use Rattle.pcapng_blocks.specs.declared.bodies.Captured.{Captured}
 pub use Rattle.pcapng_blocks.specs.declared.bodies.Meaning.{Meaning}
 pub use Rattle.pcapng_blocks.specs.declared.byte_order.Order.{Order}
@@ -48,4 +48,4 @@ pub use Rattle.pcapng_blocks.specs.declared.heads.Look.{Look}
 pub use Rattle.pcapng_blocks.specs.declared.heads.Look.TheVariants.{Bad, Headed, Short}
 pub use Rattle.pcapng_blocks.specs.declared.interfaces.Interface.{Interface}
 pub use Rattle.pcapng_blocks.specs.declared.stage.Skip.{Skip}
-pub use Rattle.pcapng_blocks.specs.declared.stage.Stage.{Stage}
+pub use Rattle.pcapng_blocks.specs.declared.stage.BlockStage.{BlockStage}

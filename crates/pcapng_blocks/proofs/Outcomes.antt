@@ -3,10 +3,11 @@ use Rattle.pcapng_blocks.proofs.Names.{◌≡◌, ℕ, ◌+◌, ◌-◌, ◌≤�
 use Rattle.pcapng_blocks.proofs.Names.{sym, ap, subst, ◌∙◌, inl, inr, arith, nat_lt, Option, None, Some, take-append-add}
 use Rattle.pcapng_blocks.proofs.Names.{cases_Bool, cases_lt, le-ltb, lt-ltb, append-nil, length-append, take_all}
 use Rattle.pcapng_blocks.proofs.Names.{take-append-le, Frame, BlockError, TooLarge, Look, Short, Bad, Headed, Interface, Part}
-use Rattle.pcapng_blocks.proofs.Names.{Cursor, Held, Progress, Stage, look_at, is_skipped, Spot, Reached, front_of, split_from}
+use Rattle.pcapng_blocks.proofs.Names.{Cursor, Held, BlockProgress, BlockStage, look_at, is_skipped, Spot, Reached, front_of}
+use Rattle.pcapng_blocks.proofs.Names.{split_from}
 use Rattle.pcapng_blocks.proofs.Names.{counted, origin, reached_in, frames_of, damage_of, spot_of, waiting, stage_at, rest_in}
 use Rattle.pcapng_blocks.proofs.Names.{Comes, Feeds, stage_with, error_of, stage_of, kept_of, Represents}
-use Rattle.pcapng_blocks.specs.declared.stage.Stage.TheVariants as stages
+use Rattle.pcapng_blocks.specs.declared.stage.BlockStage.TheVariants as stages
 use Rattle.pcapng_blocks.proofs.FrontBlocks.{part_short}
 use Rattle.pcapng_blocks.proofs.Splits.{accounts, go_on_by, split_append, split_frames, StopsAlike, split_alike}
 
@@ -107,7 +108,8 @@ stage_alike x y h = rw (h.spot, h.fault, h.left) refl
 -- ---- what a feed leaves
 
 -- a stage, a place, kept bytes and frames are those of a capture that was fed on
-pub record Settles (number : ℕ) (fed piece : List ℕ) (before after : List Frame) (stage : Stage) (spot : Spot) (rest : List ℕ)
+pub record Settles (number : ℕ) (fed piece : List ℕ) (before after : List Frame) (stage : BlockStage) (spot : Spot)
+    (rest : List ℕ)
     : Type 0 where
   pub at : stage ≡ stage_of (fed ++ piece)
   pub place : spot ≡ (reached_in 0 (fed ++ piece)).spot
@@ -173,7 +175,7 @@ settles_large number fed piece before after rest e many same =
     }
 
 -- how a capture that isn't damaged continues
-module _ (number : ℕ) (fed piece taken : List ℕ) (before after : List Frame) (progress : Progress) (kept : List ℕ)
+module _ (number : ℕ) (fed piece taken : List ℕ) (before after : List Frame) (progress : BlockProgress) (kept : List ℕ)
     (interfaces : List Interface) (beyond : Bool)
     (e : (reached_in 0 fed).fault ≡ None) (part : taken ≡ take (33554432 - length fed) piece)
     (over : beyond ≡ nat_lt 33554432 (length (fed ++ piece))) where
@@ -221,10 +223,10 @@ module _ (number : ℕ) (fed piece taken : List ℕ) (before after : List Frame)
         kept = λ none.
             let kept_stage : stage_of (fed ++ piece) ≡ stage_at (reached_in 0 (fed ++ piece)) = stays none in
             c.rest ∙ rw (stage_alike alone (reached_in 0 (fed ++ piece)) stops, stops.left)
-            (ap (λ (s : Stage). rest_in s (reached_in 0 (fed ++ piece)).left) (sym kept_stage));
+            (ap (λ (s : BlockStage). rest_in s (reached_in 0 (fed ++ piece)).left) (sym kept_stage));
         frames = (alone.frames, c.frames, ap (λ (r : Reached). r.frames) mine);
       } where
-        same_stage : (stage : Stage) (b : Bool) → error_of (stage_with stage b) ≡ None → stage_with stage b ≡ stage
+        same_stage : (stage : BlockStage) (b : Bool) → error_of (stage_with stage b) ≡ None → stage_with stage b ≡ stage
         same_stage stages.Blocks true none = absurd cc
         same_stage stages.Blocks false none = refl
         same_stage (stages.Skipping skip) true none = absurd cc
@@ -245,7 +247,7 @@ module _ (number : ℕ) (fed piece taken : List ℕ) (before after : List Frame)
 
 -- the outcome of reading at a waiting stage, for the bytes that the kept ones represent
 waiting_feeds : (cpu : ℕ) (look : Look) (cursor : Cursor) (left piece : List ℕ) (old : Held) (before after : List Frame)
-    (progress : Progress) (new : Held)
+    (progress : BlockProgress) (new : Held)
     → look_at (spot_of cursor old.interfaces.items).order (spot_of cursor old.interfaces.items).stop left ≡ look
     → front_of (spot_of cursor old.interfaces.items).order (spot_of cursor old.interfaces.items).interfaces
     (spot_of cursor old.interfaces.items).stop left ≡ Part
@@ -284,8 +286,8 @@ unfolding reached_in
 front_fine bytes e = let h = (accounts 0 origin [] (counted bytes)).ends in rw e at h
 
 -- a decoder that represents bytes was fed
-pub settles : (number : ℕ) (fed piece taken : List ℕ) (cursor : Cursor) (stage : Stage) (count : ℕ) (old new : Held)
-    (before after : List Frame) (progress : Progress) (beyond : Bool)
+pub settles : (number : ℕ) (fed piece taken : List ℕ) (cursor : Cursor) (stage : BlockStage) (count : ℕ) (old new : Held)
+    (before after : List Frame) (progress : BlockProgress) (beyond : Bool)
     → Represents number (record {
       cpu = number;
       fed = count;
@@ -320,7 +322,7 @@ settles number fed piece taken cursor stage count old new before after progress 
           let size : count ≡ length fed = represents.count ∙ ap length (take_all 33554432 fed few) in
           let here : stage ≡ waiting look left = represents.stage ∙ at in
           let kept : old.kept.items ≡ rest_in (waiting look left) left =
-          represents.rest ∙ ap (λ (s : Stage). rest_in s left) at in
+          represents.rest ∙ ap (λ (s : BlockStage). rest_in s left) at in
           let over : beyond ≡ nat_lt 33554432 (length (fed ++ piece)) =
           many ∙ ap (λ (n : ℕ). nat_lt (33554432 - n) (length piece)) size ∙ left_beyond fed piece few in
           let place : spot_of cursor old.interfaces.items ≡ spot = represents.spot in

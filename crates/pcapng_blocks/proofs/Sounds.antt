@@ -2,10 +2,11 @@
 use Rattle.pcapng_blocks.proofs.Names.{◌≡◌, ℕ, ◌+◌, ◌-◌, ◌*◌, ◌≤◌, ◌<◌, true, List, [], ◌++◌, length, take, drop, refl, sym, ap}
 use Rattle.pcapng_blocks.proofs.Names.{◌∙◌, inl, inr, arith, ◌≢◌, min, Option, None, Some, cases_Bool, cases_lt, append-nil}
 use Rattle.pcapng_blocks.proofs.Names.{length-append, length-drop, length-take, take_all, drop_all, take-take, take_at, Frame}
-use Rattle.pcapng_blocks.proofs.Names.{BlockError, Head, Look, Short, Bad, Headed, Interface, Part, Progress, Skip, Stage}
+use Rattle.pcapng_blocks.proofs.Names.{BlockError, Head, Look, Short, Bad, Headed, Interface, Part, BlockProgress, Skip}
+use Rattle.pcapng_blocks.proofs.Names.{BlockStage}
 use Rattle.pcapng_blocks.proofs.Names.{look_at, is_skipped, IsHead, Spot, front_of, split_from, spot_of, waiting, stage_by}
 use Rattle.pcapng_blocks.proofs.Names.{stage_at, rest_in, Comes, IsSkipping, IsPart, IsSkip, IsKept, IsSoundAt, Extends}
-use Rattle.pcapng_blocks.specs.declared.stage.Stage.TheVariants as stages
+use Rattle.pcapng_blocks.specs.declared.stage.BlockStage.TheVariants as stages
 use Rattle.pcapng_blocks.proofs.HeadLooks.{look_at-append, look_at-there, look_head}
 use Rattle.pcapng_blocks.proofs.FrontBlocks.{part_short}
 use Rattle.pcapng_blocks.proofs.Splits.{ended, accounts}
@@ -53,7 +54,7 @@ kept_by None spot left fed ends bound = waiting_kept spot left fed (look_at spot
 kept_by (Some error) spot left fed ends bound = (refl, omega arith)
 
 -- where a split of these bytes stops
-pub split_sound : (cpu : ℕ) (spot : Spot) (frames : List Frame) (bytes : List ℕ) (progress : Progress) (kept : List ℕ)
+pub split_sound : (cpu : ℕ) (spot : Spot) (frames : List Frame) (bytes : List ℕ) (progress : BlockProgress) (kept : List ℕ)
     (interfaces : List Interface) (after : List Frame) (fed : ℕ)
     → Comes (split_from cpu spot frames bytes) progress kept interfaces after → spot.stop + length bytes ≤ fed
     → 16 * spot.index ≤ spot.stop
@@ -69,13 +70,13 @@ split_sound cpu spot frames bytes progress kept interfaces after fed comes bound
     rw (comes.stage, comes.spot, comes.rest) here
 
 -- a greater number of bytes that were fed changes nothing
-kept_more : (stage : Stage) (spot : Spot) (rest : List ℕ) (fed more : ℕ) → fed ≤ more → IsKept stage spot rest fed
+kept_more : (stage : BlockStage) (spot : Spot) (rest : List ℕ) (fed more : ℕ) → fed ≤ more → IsKept stage spot rest fed
     → IsKept stage spot rest more
 kept_more stages.Blocks spot rest fed more le kept = (kept.0, omega (arith, kept.1))
 kept_more (stages.Skipping skip) spot rest fed more le kept = (kept.0, omega (arith, kept.1))
 kept_more (stages.Damaged error) spot rest fed more le kept = (kept.0, omega (arith, kept.1))
 
-pub sound_more : (stage : Stage) (spot : Spot) (rest : List ℕ) (fed more : ℕ) → fed ≤ more → IsSoundAt stage spot rest fed
+pub sound_more : (stage : BlockStage) (spot : Spot) (rest : List ℕ) (fed more : ℕ) → fed ≤ more → IsSoundAt stage spot rest fed
     → IsSoundAt stage spot rest more
 sound_more stage spot rest fed more le sound =
     record { kept = kept_more stage spot rest fed more le sound.kept; count = sound.count }

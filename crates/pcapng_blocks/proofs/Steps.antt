@@ -5,12 +5,12 @@ use Rattle.pcapng_blocks.proofs.Names.{drop-append-add, cases_Bool, cases_lt, eq
 use Rattle.pcapng_blocks.proofs.Names.{take-append-le, take-append-drop, length-append, length-drop, length-take, take_all}
 use Rattle.pcapng_blocks.proofs.Names.{drop_at, drop_all, drop_min, drop-take, drop-drop, Frame, Order, Little, Big, BlockError}
 use Rattle.pcapng_blocks.proofs.Names.{BadLength, Head, Kind, Short, Headed, Interface, Meaning, Part, Fault, Block, Cursor}
-use Rattle.pcapng_blocks.proofs.Names.{Skip, Stage, number_at, look_at, is_skipped, meaning_of, frames_in, Spot, Reached}
+use Rattle.pcapng_blocks.proofs.Names.{Skip, BlockStage, number_at, look_at, is_skipped, meaning_of, frames_in, Spot, Reached}
 use Rattle.pcapng_blocks.proofs.Names.{front_told, front_of, spot_after, split_from, spot_of, waiting, rest_in, Comes}
 use Rattle.pcapng_blocks.proofs.Names.{IsSkipping}
 use Rattle.pcapng_blocks.specs.declared.heads.Kind.TheVariants as kinds
 use Rattle.pcapng_blocks.specs.declared.bodies.Meaning.TheVariants as meanings
-use Rattle.pcapng_blocks.specs.declared.stage.Stage.TheVariants as stages
+use Rattle.pcapng_blocks.specs.declared.stage.BlockStage.TheVariants as stages
 use Rattle.pcapng_blocks.proofs.HeadLooks.{look_at-append}
 use Rattle.pcapng_blocks.proofs.FrontBlocks.{front_part, front_here}
 use Rattle.pcapng_blocks.proofs.Splits.{split_part, split_fault, split_block}
@@ -99,7 +99,8 @@ module _ (cpu : ℕ) (spot : Spot) (frames : List Frame) (bytes : List ℕ) (cur
       })
 
 -- fresh bytes were split, and what is needed of those that are left was kept
-pub fresh_rest : (cursor : Cursor) (interfaces : List Interface) (frames : List Frame) (left old new : List ℕ) (stage : Stage)
+pub fresh_rest : (cursor : Cursor) (interfaces : List Interface) (frames : List Frame) (left old new : List ℕ)
+    (stage : BlockStage)
     (cut : ℕ) (reached : Reached)
     → record { spot = spot_of cursor interfaces; frames = frames; fault = None; left = left } ≡ reached
     → stage ≡ waiting (look_at cursor.order cursor.stop left) left → new ≡ old ++ rest_in stage left → cut ≡ length old
@@ -108,7 +109,8 @@ fresh_rest cursor interfaces frames left old new stage cut reached e told kept s
     rw (← e) (record {
       stage = told;
       spot = refl;
-      rest = rw (kept, size) (drop_at old (rest_in stage left) (length old) refl ∙ ap (λ (s : Stage). rest_in s left) told);
+      rest = rw (kept, size) (drop_at old (rest_in stage left) (length old) refl
+          ∙ ap (λ (s : BlockStage). rest_in s left) told);
       frames = refl;
     })
 

@@ -6,8 +6,8 @@ use Rattle.frame_view.specs.declared.frames.Frame.{Frame}
 use Rattle.pcapng_blocks.specs.declared.error.BlockError.{BlockError}
 use Rattle.pcapng_blocks.specs.declared.error.BlockError.TheVariants.{TooLarge, Truncated}
 use Rattle.pcapng_blocks.specs.declared.decoder.BlockDecoder.TheInside.{Inside}
-use Rattle.pcapng_blocks.specs.declared.stage.Stage.{Stage}
-use Rattle.pcapng_blocks.specs.declared.stage.Stage.TheVariants.{Blocks, Skipping, Damaged}
+use Rattle.pcapng_blocks.specs.declared.stage.BlockStage.{BlockStage}
+use Rattle.pcapng_blocks.specs.declared.stage.BlockStage.TheVariants.{Blocks, Skipping, Damaged}
 use Rattle.pcapng_blocks.specs.Blocks.{Spot}
 use Rattle.pcapng_blocks.specs.Capture.{counted, reached_in, frames_of, damage_of, end_of}
 use Rattle.pcapng_blocks.specs.Feeds.{spot_of, stage_at, rest_in, IsSoundAt}
@@ -17,7 +17,7 @@ use Rattle.pcapng_blocks.specs.Feeds.{spot_of, stage_at, rest_in, IsSoundAt}
 pub record DecoderValue : Type 0 where
   pub cpu : ℕ
   pub fed : ℕ
-  pub stage : Stage
+  pub stage : BlockStage
   pub spot : Spot
   pub rest : List ℕ
 
@@ -36,26 +36,26 @@ pub record IsSound (d : Inside) : Type 0 where
   pub first : d.cursor.first ≤ length d.held.interfaces.items
 
 -- the stage, given whether bytes beyond those that count were fed
-abbrev pub stage_with : Stage → Bool → Stage
+abbrev pub stage_with : BlockStage → Bool → BlockStage
 stage_with Blocks beyond = if beyond then Damaged TooLarge else Blocks
 stage_with (Skipping skip) beyond = if beyond then Damaged TooLarge else Skipping skip
 stage_with (Damaged error) beyond = Damaged error
 
 -- a stage by its error, if it has one
-abbrev pub error_of : Stage → Option BlockError
+abbrev pub error_of : BlockStage → Option BlockError
 error_of Blocks = None
 error_of (Skipping skip) = None
 error_of (Damaged error) = Some error
 
 -- how a capture ends at a stage, where its last whole block ends at `stop`, given whether bytes
 -- follow it
-abbrev pub end_at : Stage → ℕ → Bool → Option BlockError
+abbrev pub end_at : BlockStage → ℕ → Bool → Option BlockError
 end_at Blocks stop none_after = if none_after then None else Some (Truncated stop)
 end_at (Skipping skip) stop none_after = Some (Truncated stop)
 end_at (Damaged error) stop none_after = Some error
 
 -- what comes next after these bytes
-abbrev pub stage_of : List ℕ → Stage
+abbrev pub stage_of : List ℕ → BlockStage
 stage_of bytes = stage_with (stage_at (reached_in 0 bytes)) (nat_lt 33554432 (length bytes))
 
 -- the bytes that are kept: those from the stop on, of a block that is skipped only those of its

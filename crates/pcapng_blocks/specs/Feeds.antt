@@ -8,11 +8,11 @@ use Rattle.pcapng_blocks.specs.declared.heads.Look.TheVariants as looks
 use Rattle.pcapng_blocks.specs.declared.interfaces.Interface.{Interface}
 use Rattle.pcapng_blocks.specs.declared.fronts.Front.TheVariants as fronts
 use Rattle.pcapng_blocks.specs.declared.block_reader.Cursor.{Cursor}
-use Rattle.pcapng_blocks.specs.declared.block_reader.Progress.{Progress}
+use Rattle.pcapng_blocks.specs.declared.block_reader.BlockProgress.{BlockProgress}
 use Rattle.pcapng_blocks.specs.declared.block_reader.Held.{Held}
 use Rattle.pcapng_blocks.specs.declared.stage.Skip.{Skip}
-use Rattle.pcapng_blocks.specs.declared.stage.Stage.{Stage}
-use Rattle.pcapng_blocks.specs.declared.stage.Stage.TheVariants as stages
+use Rattle.pcapng_blocks.specs.declared.stage.BlockStage.{BlockStage}
+use Rattle.pcapng_blocks.specs.declared.stage.BlockStage.TheVariants as stages
 use Rattle.pcapng_blocks.specs.Heads.{look_at, is_skipped}
 use Rattle.pcapng_blocks.specs.Blocks.{Spot, Reached, front_of, split_from}
 
@@ -27,7 +27,7 @@ spot_of cursor interfaces =
     }
 
 -- what comes next where no test failed: the rest of a block that is skipped, or a block
-abbrev pub waiting : Look → List ℕ → Stage
+abbrev pub waiting : Look → List ℕ → BlockStage
 waiting looks.Short left = stages.Blocks
 waiting (looks.Bad error) left = stages.Blocks
 waiting (looks.Headed head) left =
@@ -36,23 +36,23 @@ waiting (looks.Headed head) left =
     else stages.Blocks
 
 -- what comes next where the split stops
-abbrev pub stage_by : Option BlockError → Look → List ℕ → Stage
+abbrev pub stage_by : Option BlockError → Look → List ℕ → BlockStage
 stage_by None look left = waiting look left
 stage_by (Some error) look left = stages.Damaged error
 
-abbrev pub stage_at : Reached → Stage
+abbrev pub stage_at : Reached → BlockStage
 stage_at reached =
     stage_by reached.fault (look_at reached.spot.order reached.spot.stop reached.left) reached.left
 
 -- the bytes that are kept of those from the stop on: of a block that is skipped only those of its
 -- tail
-abbrev pub rest_in : Stage → List ℕ → List ℕ
+abbrev pub rest_in : BlockStage → List ℕ → List ℕ
 rest_in stages.Blocks left = left
 rest_in (stages.Skipping skip) left = drop (skip.head.total - 4) left
 rest_in (stages.Damaged error) left = []
 
 -- a feed has read to where the split stops, and has these kept bytes, interfaces and frames
-pub record Comes (reached : Reached) (progress : Progress) (kept : List ℕ)
+pub record Comes (reached : Reached) (progress : BlockProgress) (kept : List ℕ)
     (interfaces : List Interface) (after : List Frame) : Type 0 where
   pub stage : progress.stage ≡ stage_at reached
   pub spot : spot_of progress.cursor interfaces ≡ reached.spot
@@ -83,14 +83,14 @@ pub record IsSkip (skip : Skip) (rest : List ℕ) : Type 0 where
 
 -- what is kept at a stage isn't a whole block, and with what was skipped it is within the bytes
 -- that were fed
-abbrev pub IsKept : Stage → Spot → List ℕ → ℕ → Type 0
+abbrev pub IsKept : BlockStage → Spot → List ℕ → ℕ → Type 0
 IsKept stages.Blocks spot rest fed = IsPart spot rest × (spot.stop + length rest ≤ fed)
 IsKept (stages.Skipping skip) spot rest fed =
     IsSkip skip rest × (spot.stop + skip.head.total + length rest ≤ fed + skip.left + 4)
 IsKept (stages.Damaged error) spot rest fed = (rest ≡ []) × (spot.stop ≤ fed)
 
 -- a decoder's place is within the bytes that were fed, and each packet before it has at least 16
-pub record IsSoundAt (stage : Stage) (spot : Spot) (rest : List ℕ) (fed : ℕ) : Type 0 where
+pub record IsSoundAt (stage : BlockStage) (spot : Spot) (rest : List ℕ) (fed : ℕ) : Type 0 where
   pub kept : IsKept stage spot rest fed
   pub count : 16 * spot.index ≤ spot.stop
 
@@ -99,13 +99,13 @@ pub record Extends {A : Type 0} (old new : List A) : Type 0 where
   pub front : take (length old) new ≡ old
 
 -- what was read is within what is kept
-pub record IsReadTo (progress : Progress) (held : Held) : Type 0 where
+pub record IsReadTo (progress : BlockProgress) (held : Held) : Type 0 where
   pub cut : progress.cut ≤ length held.kept.items
   pub first : progress.cursor.first ≤ length held.interfaces.items
 
 -- nothing was read or appended
-pub record IsUnread (stage : Stage) (cursor : Cursor) (old : Held) (before : List Frame)
-    (progress : Progress) (new : Held) (after : List Frame) : Type 0 where
+pub record IsUnread (stage : BlockStage) (cursor : Cursor) (old : Held) (before : List Frame)
+    (progress : BlockProgress) (new : Held) (after : List Frame) : Type 0 where
   pub progress_is : progress ≡ record { stage = stage; cursor = cursor; cut = 0 }
   pub kept : new.kept.items ≡ old.kept.items
   pub interfaces : new.interfaces.items ≡ old.interfaces.items
@@ -113,7 +113,8 @@ pub record IsUnread (stage : Stage) (cursor : Cursor) (old : Held) (before : Lis
 
 -- the outcome of a feed of a piece at a stage, whatever bytes the kept ones represent
 abbrev pub Feeds :
-    ℕ → Stage → Cursor → Held → List ℕ → List Frame → Progress → Held → List Frame → Type 0
+    ℕ → BlockStage → Cursor → Held → List ℕ → List Frame → BlockProgress → Held → List Frame
+    → Type 0
 Feeds cpu stages.Blocks cursor old piece before progress new after =
     Comes (split_from cpu (spot_of cursor old.interfaces.items) before (old.kept.items ++ piece))
     progress new.kept.items new.interfaces.items after
@@ -125,7 +126,7 @@ Feeds cpu (stages.Damaged error) cursor old piece before progress new after =
     IsUnread (stages.Damaged error) cursor old before progress new after
 
 -- the stage and the kept bytes after a feed are sound, after this number of bytes
-abbrev pub StaysSound : Progress → Held → ℕ → Type 0
+abbrev pub StaysSound : BlockProgress → Held → ℕ → Type 0
 StaysSound progress held fed =
     IsSoundAt progress.stage (spot_of progress.cursor held.interfaces.items)
     (drop progress.cut held.kept.items) fed

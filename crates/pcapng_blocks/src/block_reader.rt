@@ -10,13 +10,13 @@ ghost use Rattle.pcapng_blocks.specs.Blocks.{spot_after, split_from, HasBlock};
 ghost use Rattle.pcapng_blocks.specs.Feeds.{spot_of, waiting, rest_in, Comes, IsSkipping, IsSkip};
 ghost use Rattle.pcapng_blocks.specs.Feeds.{IsPart, IsKept, StaysSound, Extends, Feeds, IsReadTo};
 ghost use Rattle.pcapng_blocks.specs.declared.heads.Look.TheVariants.{Headed};
-ghost use Rattle.pcapng_blocks.specs.declared.stage.Stage.TheVariants.{Blocks};
+ghost use Rattle.pcapng_blocks.specs.declared.stage.BlockStage.TheVariants.{Blocks};
 
 use crate::bodies::{Meaning, frame_of, read_block};
 use crate::fronts::{Front, front_of};
 use crate::heads::{Head, Look, look_at};
 use crate::interfaces::Interface;
-use crate::stage::{Skip, Stage};
+use crate::stage::{BlockStage, Skip};
 use crate::{BlockError, Order};
 use frame_view::{Frames, Memory};
 use std::alloc::Global;
@@ -42,9 +42,9 @@ pub(crate) struct Cursor {
 
 /// How far a feed has read.
 #[derive(Clone, Copy)]
-pub(crate) struct Progress {
+pub(crate) struct BlockProgress {
     /// What comes next.
-    pub stage: Stage,
+    pub stage: BlockStage,
     /// Where that is, or where the damage is.
     pub cursor: Cursor,
     /// The number of kept bytes that have been read.
@@ -73,24 +73,24 @@ pub(crate) struct Split<'a> {
 
 /// What blocks are read with.
 #[derive(Clone, Copy)]
-pub(crate) struct Reader {
+pub(crate) struct BlockReader {
     /// Allocates a frame's bytes.
     pub alloc: Global,
     /// The CPU number that its frames carry.
     pub cpu: u32,
 }
 
-impl Reader {
+impl BlockReader {
     /// Reads on in a capture at a stage. Frames, bytes and interfaces are only appended, so that
     /// the earlier state can be restored after `Memory`.
     pub(crate) fn read_on(
         self,
-        stage: Stage,
+        stage: BlockStage,
         cursor: Cursor,
         piece: &[u8],
         held: &mut Held,
         into: &mut Frames,
-    ) -> Result<Progress, Memory>
+    ) -> Result<BlockProgress, Memory>
         requires first { cursor.first ≤ length held.old.interfaces.items }
         requires count { 16 * cursor.index ≤ cursor.stop }
         requires kept { IsKept stage (spot_of cursor held.old.interfaces.items) held.old.kept.items
@@ -107,9 +107,9 @@ impl Reader {
         ensures frames { Extends into.old into.new }
     {
         match stage {
-            Stage::Blocks => self.go_on(cursor, piece, held, into),
-            Stage::Skipping(skip) => self.skip_on(cursor, skip, 0, piece, held, into),
-            Stage::Damaged(_) => Ok(Progress {
+            BlockStage::Blocks => self.go_on(cursor, piece, held, into),
+            BlockStage::Skipping(skip) => self.skip_on(cursor, skip, 0, piece, held, into),
+            BlockStage::Damaged(_) => Ok(BlockProgress {
                 stage,
                 cursor,
                 cut: 0,
@@ -124,7 +124,7 @@ impl Reader {
         piece: &[u8],
         held: &mut Held,
         into: &mut Frames,
-    ) -> Result<Progress, Memory>
+    ) -> Result<BlockProgress, Memory>
         requires first { cursor.first ≤ length held.old.interfaces.items }
         requires count { 16 * cursor.index ≤ cursor.stop }
         requires part { IsPart (spot_of cursor held.old.interfaces.items) held.old.kept.items }
@@ -143,13 +143,13 @@ impl Reader {
     {
         let behind = top_up(&mut held.kept, LEAST_BLOCK, piece)?;
         match look_at(cursor.order, cursor.stop, held.kept.as_slice()) {
-            Look::Short => Ok(Progress {
-                stage: Stage::Blocks,
+            Look::Short => Ok(BlockProgress {
+                stage: BlockStage::Blocks,
                 cursor,
                 cut: 0,
             }),
-            Look::Bad(error) => Ok(Progress {
-                stage: Stage::Damaged(error),
+            Look::Bad(error) => Ok(BlockProgress {
+                stage: BlockStage::Damaged(error),
                 cursor,
                 cut: held.kept.len(),
             }),
@@ -173,7 +173,7 @@ impl Reader {
         piece: &[u8],
         held: &mut Held,
         into: &mut Frames,
-    ) -> Result<Progress, Memory>
+    ) -> Result<BlockProgress, Memory>
         requires first { cursor.first ≤ length held.old.interfaces.items }
         requires count { 16 * cursor.index ≤ cursor.stop }
         requires head { look_at cursor.order cursor.stop held.old.kept.items ≡ Headed head }
@@ -196,8 +196,8 @@ impl Reader {
         let size = head.total as usize;
         let fresh = top_up(&mut held.kept, size, piece)?;
         if held.kept.len() < size {
-            return Ok(Progress {
-                stage: Stage::Blocks,
+            return Ok(BlockProgress {
+                stage: BlockStage::Blocks,
                 cursor,
                 cut: 0,
             });
@@ -209,8 +209,8 @@ impl Reader {
                 let next = self.advance(cursor, head, meaning, block, &mut held.interfaces, into)?;
                 self.read_fresh(next, fresh, held, into)
             }
-            Err(error) => Ok(Progress {
-                stage: Stage::Damaged(error),
+            Err(error) => Ok(BlockProgress {
+                stage: BlockStage::Damaged(error),
                 cursor,
                 cut: held.kept.len(),
             }),
@@ -227,7 +227,7 @@ impl Reader {
         piece: &[u8],
         held: &mut Held,
         into: &mut Frames,
-    ) -> Result<Progress, Memory>
+    ) -> Result<BlockProgress, Memory>
         requires first { cursor.first ≤ length held.old.interfaces.items }
         requires count { 16 * cursor.index ≤ cursor.stop }
         requires cut { cut ≤ length held.old.kept.items }
@@ -255,15 +255,15 @@ impl Reader {
         let fresh = top_up(&mut held.kept, cut + TAIL_SIZE, behind)?;
         if held.kept.len() < cut + TAIL_SIZE {
             let left = skip.left - passed;
-            return Ok(Progress {
-                stage: Stage::Skipping(Skip { left, ..skip }),
+            return Ok(BlockProgress {
+                stage: BlockStage::Skipping(Skip { left, ..skip }),
                 cursor,
                 cut,
             });
         }
         if skip.head.order.u32_at(held.kept.as_slice(), cut) != skip.head.total {
-            return Ok(Progress {
-                stage: Stage::Damaged(BlockError::BadLength(cursor.stop as u64)),
+            return Ok(BlockProgress {
+                stage: BlockStage::Damaged(BlockError::BadLength(cursor.stop as u64)),
                 cursor,
                 cut: held.kept.len(),
             });
@@ -280,7 +280,7 @@ impl Reader {
         fresh: &[u8],
         held: &mut Held,
         into: &mut Frames,
-    ) -> Result<Progress, Memory>
+    ) -> Result<BlockProgress, Memory>
         requires first { cursor.first ≤ length held.old.interfaces.items }
         requires count { 16 * cursor.index ≤ cursor.stop }
         requires bound { cursor.stop + length fresh.now ≤ 33554432 }
@@ -299,11 +299,11 @@ impl Reader {
         let cursor = split.cursor;
         let cut = held.kept.len();
         if let Some(error) = split.fault {
-            let stage = Stage::Damaged(error);
-            return Ok(Progress { stage, cursor, cut });
+            let stage = BlockStage::Damaged(error);
+            return Ok(BlockProgress { stage, cursor, cut });
         }
         let stage = keep_rest(cursor, split.left, &mut held.kept)?;
-        Ok(Progress { stage, cursor, cut })
+        Ok(BlockProgress { stage, cursor, cut })
     }
 
     /// Splits bytes from the start into blocks, and takes in what each says.
@@ -408,7 +408,7 @@ impl Reader {
 
 /// Keeps what is needed of the bytes after the last block, which are a part of one, and returns
 /// what comes next.
-fn keep_rest(cursor: Cursor, left: &[u8], kept: &mut Vec<u8>) -> Result<Stage, Memory>
+fn keep_rest(cursor: Cursor, left: &[u8], kept: &mut Vec<u8>) -> Result<BlockStage, Memory>
     ensures stage { IfOk result (λ stage.
         stage ≡ waiting (look_at cursor.order cursor.stop left.now) left.now) }
     ensures kept { IfOk result (λ next. kept.new.items ≡ kept.old.items ++ rest_in next left.now) }
@@ -420,11 +420,11 @@ fn keep_rest(cursor: Cursor, left: &[u8], kept: &mut Vec<u8>) -> Result<Stage, M
             let (skipped, tail) = left.split_at(body_end.min(left.len()));
             kept.extend_from_slice(tail)?;
             let left = body_end - skipped.len();
-            Ok(Stage::Skipping(Skip { head, left }))
+            Ok(BlockStage::Skipping(Skip { head, left }))
         }
         _ => {
             kept.extend_from_slice(left)?;
-            Ok(Stage::Blocks)
+            Ok(BlockStage::Blocks)
         }
     }
 }

@@ -6,15 +6,15 @@
 ghost use Rattle.std.specs.Prelude.{◌≡◌, ◌≤◌, [], IfOk, OnErr};
 
 use crate::BlockError;
-use crate::block_reader::{Cursor, Held, Reader, cut_front};
+use crate::block_reader::{BlockReader, Cursor, Held, cut_front};
 use crate::byte_order::Order;
-use crate::stage::Stage;
+use crate::stage::BlockStage;
 use frame_view::{Frames, Memory};
 use std::alloc::Global;
 use std::marker::Model;
 
-/// The number of bytes of a capture that count.
-const LARGEST_CAPTURE: usize = 33_554_432;
+/// The number of bytes of a capture that count: this project's own limit.
+pub const LARGEST_CAPTURE: usize = 33_554_432;
 
 /// Reads a pcapng capture that is fed piece by piece, however it is cut; its first bytes are those
 /// of a section header. The limits are this project's own choice: the first 33,554,432 bytes count,
@@ -28,7 +28,7 @@ pub struct BlockDecoder {
     /// The number of bytes that were fed, of those that count.
     fed: usize,
     /// What comes next.
-    stage: Stage,
+    stage: BlockStage,
     /// Where that is.
     cursor: Cursor,
     /// What is kept between feeds.
@@ -58,7 +58,7 @@ impl BlockDecoder {
             alloc,
             cpu,
             fed: 0,
-            stage: Stage::Blocks,
+            stage: BlockStage::Blocks,
             cursor: Cursor {
                 stop: 0,
                 index: 0,
@@ -94,7 +94,7 @@ impl BlockDecoder {
         let interfaces = self.held.interfaces.len();
         let room = LARGEST_CAPTURE - self.fed;
         let (counted, _) = piece.split_at(room.min(piece.len()));
-        let reader = Reader {
+        let reader = BlockReader {
             alloc: self.alloc,
             cpu: self.cpu,
         };
@@ -112,7 +112,7 @@ impl BlockDecoder {
             first: 0,
             ..progress.cursor
         };
-        if let Stage::Damaged(damage) = self.stage {
+        if let BlockStage::Damaged(damage) = self.stage {
             self.held.kept.clear();
             return Ok(Some(damage));
         }

@@ -13,7 +13,7 @@ mod laws;
 mod stage;
 
 pub use byte_order::Order;
-pub use decoder::BlockDecoder;
+pub use decoder::{BlockDecoder, LARGEST_CAPTURE};
 pub use error::BlockError;
 pub use laws::{
     damage_is_the_end, damage_stays, few_bytes_are_kept, frames_are_few, frames_are_packets,

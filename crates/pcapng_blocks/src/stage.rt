@@ -16,7 +16,7 @@ pub(crate) struct Skip {
 
 /// What comes next in a capture.
 #[derive(Clone, Copy, Debug)]
-pub(crate) enum Stage {
+pub(crate) enum BlockStage {
     /// A block.
     Blocks,
     /// The rest of a block that is skipped.
@@ -25,16 +25,16 @@ pub(crate) enum Stage {
     Damaged(BlockError),
 }
 
-impl Stage {
+impl BlockStage {
     ghost use Rattle.pcapng_blocks.specs.Decoders.{stage_with, end_at};
 
     /// The stage, given whether bytes beyond those that count were fed.
-    pub(crate) fn with(self, has_beyond: bool) -> Stage
+    pub(crate) fn with(self, has_beyond: bool) -> BlockStage
         ensures { result ≡ stage_with self has_beyond }
     {
         match self {
-            Stage::Damaged(error) => Stage::Damaged(error),
-            _ if has_beyond => Stage::Damaged(BlockError::TooLarge),
+            BlockStage::Damaged(error) => BlockStage::Damaged(error),
+            _ if has_beyond => BlockStage::Damaged(BlockError::TooLarge),
             stage => stage,
         }
     }
@@ -45,8 +45,8 @@ impl Stage {
         ensures { result_err result ≡ end_at self stop none_after }
     {
         match self {
-            Stage::Damaged(error) => Err(error),
-            Stage::Blocks if none_after => Ok(()),
+            BlockStage::Damaged(error) => Err(error),
+            BlockStage::Blocks if none_after => Ok(()),
             _ => Err(BlockError::Truncated(stop as u64)),
         }
     }

@@ -13,7 +13,7 @@ use Rattle.reader_pace.specs.Readers.{at_line, beginnings_after, draft_of, phase
 use Rattle.reader_pace.specs.Sound.{AreBeginnings, ArePhases, IsMoreFile, IsPace, IsReader, IsStall}
 use Rattle.reader_pace.specs.Values.{made}
 use Rattle.reader_pace.specs.declared.drafts.Bounds.{Bounds}
-use Rattle.reader_pace.specs.declared.drafts.Draft.{Draft}
+use Rattle.reader_pace.specs.declared.drafts.ReaderDraft.{ReaderDraft}
 use Rattle.reader_pace.specs.declared.paces.Beginnings.{Beginnings}
 use Rattle.reader_pace.specs.declared.paces.Beginnings.TheVariants as beginnings
 use Rattle.reader_pace.specs.declared.paces.Pace.{Pace}
@@ -22,7 +22,7 @@ use Rattle.reader_pace.specs.declared.paces.Phases.{Phases}
 use Rattle.reader_pace.specs.declared.paces.Phases.TheVariants as phases
 use Rattle.reader_pace.specs.declared.reader_error.ReaderKind.{ReaderKind}
 use Rattle.reader_pace.specs.declared.reader_error.ReaderKind.TheVariants.{BadFrom}
-use Rattle.reader_pace.specs.declared.readers.Reader.{Reader}
+use Rattle.reader_pace.specs.declared.readers.PacedReader.{PacedReader}
 use Rattle.reader_pace.proofs.DraftLines.{IsDraft, line_keeps}
 
 phases_sound : (tov : ℕ) (slots : Bool) (said : Option Phases) (phases : Phases) → IfSome said (ArePhases tov false)
@@ -53,14 +53,14 @@ beginnings_sound (pace.Blocks count) (Some (beginnings.One from)) given h =
     passed (AreBeginnings (pace.Blocks count)) (nat_lt (from * count) 1000) (beginnings.One from) given BadFrom
     (ltb-true (from * count) 1000) h
 
-from_sound : (bounds : Bounds) (draft : Draft) (paced : Pace) (phases : Result Phases ReaderKind)
-    (beginnings : Result Beginnings ReaderKind) (reader : Reader)
+from_sound : (bounds : Bounds) (draft : ReaderDraft) (paced : Pace) (phases : Result Phases ReaderKind)
+    (beginnings : Result Beginnings ReaderKind) (reader : PacedReader)
     → IsDraft bounds draft → IsPace paced
     → ((given : Phases) → phases ≡ Ok given → ArePhases bounds.tov draft.slots given)
     → ((given : Beginnings) → beginnings ≡ Ok given → AreBeginnings paced given)
     → reader_from draft paced phases beginnings ≡ Ok reader → IsReader bounds.cpus bounds.tov reader
 from_sound bounds draft paced (Ok phases) (Ok beginnings) reader p q k m h =
-    let whole : Reader = record {
+    let whole : PacedReader = record {
       pace = paced;
       stalls = draft.stalls;
       phases = phases;
@@ -78,7 +78,7 @@ from_sound bounds draft paced (Ok phases) (Ok beginnings) reader p q k m h =
 from_sound bounds draft paced (Ok phases) (Err fault) reader p q k m h = cc
 from_sound bounds draft paced (Err fault) beginnings reader p q k m h = cc
 
-paced_sound : (bounds : Bounds) (draft : Draft) (said : Option Pace) (reader : Reader) → IsDraft bounds draft
+paced_sound : (bounds : Bounds) (draft : ReaderDraft) (said : Option Pace) (reader : PacedReader) → IsDraft bounds draft
     → IfSome said IsPace → with_pace draft said ≡ Ok reader → IsReader bounds.cpus bounds.tov reader
 paced_sound bounds draft None reader p q h = cc
 paced_sound bounds draft (Some paced) reader p q h =
@@ -86,11 +86,12 @@ paced_sound bounds draft (Some paced) reader p q h =
     (λ given e. phases_sound bounds.tov draft.slots draft.phases given p.phases e)
     (beginnings_sound paced draft.beginnings) h
 
-line_ok : (read : Result Draft (ℕ × ReaderKind)) (draft : Draft) → at_line read ≡ Ok draft → read ≡ Ok draft
+line_ok : (read : Result ReaderDraft (ℕ × ReaderKind)) (draft : ReaderDraft) → at_line read ≡ Ok draft → read ≡ Ok draft
 line_ok (Ok made) draft h = ap Ok (ok_same made draft h)
 line_ok (Err fault) draft h = cc
 
-pub reader_accepted : (bounds : Bounds) (text : List ℕ) (draft : Draft) (reader : Reader) → draft_of bounds text ≡ Ok draft
+pub reader_accepted : (bounds : Bounds) (text : List ℕ) (draft : ReaderDraft) (reader : PacedReader)
+    → draft_of bounds text ≡ Ok draft
     → reader_after draft ≡ Ok reader → IsReader bounds.cpus bounds.tov reader
 unfolding draft_of reader_after
 reader_accepted bounds text draft reader d h =

@@ -15,7 +15,7 @@ use Rattle.reader_pace.specs.Sound.{ArePhases, IsMoreFile, IsPace, IsStall}
 use Rattle.reader_pace.specs.Values.{all_phases, any_number, beginning_in, blocks_in, count_in, cpu_in, made, made_of_two}
 use Rattle.reader_pace.specs.Values.{more_in, name_in, number_below, pause_in, phase_in, poll_in, stall_in, tested}
 use Rattle.reader_pace.specs.declared.drafts.Bounds.{Bounds}
-use Rattle.reader_pace.specs.declared.drafts.Draft.{Draft}
+use Rattle.reader_pace.specs.declared.drafts.ReaderDraft.{ReaderDraft}
 use Rattle.reader_pace.specs.declared.paces.MoreFile.{MoreFile}
 use Rattle.reader_pace.specs.declared.paces.Pace.{Pace}
 use Rattle.reader_pace.specs.declared.paces.Pace.TheVariants as pace
@@ -112,7 +112,7 @@ more_sound cpus cpu file more some h =
 -- ---- lines
 
 -- what holds of what lines without a fault say
-pub record IsDraft (bounds : Bounds) (draft : Draft) : Type 0 where
+pub record IsDraft (bounds : Bounds) (draft : ReaderDraft) : Type 0 where
   pub pace : IfSome draft.pace IsPace
   pub stalls : All IsStall draft.stalls
   pub phases : IfSome draft.phases (ArePhases bounds.tov false)
@@ -122,27 +122,30 @@ pub record IsDraft (bounds : Bounds) (draft : Draft) : Type 0 where
 abbrev HasByte : List ℕ → Type 0
 HasByte word = 0 < length word
 
-word_keeps : (bounds : Bounds) (draft : Draft) (said : ReaderWord) (next : Draft) → IsDraft bounds draft
+word_keeps : (bounds : Bounds) (draft : ReaderDraft) (said : ReaderWord) (next : ReaderDraft) → IsDraft bounds draft
     → word_after draft said ≡ Ok next → IsDraft bounds next
 word_keeps bounds draft word.Slots next p h =
     made_keeps (λ set. record draft { slots = set }) (set_once draft.slots) next (IsDraft bounds)
     (λ set e. record { pace = p.pace; stalls = p.stalls; phases = p.phases; more = p.more }) h
 word_keeps bounds draft said next p h = cc
 
-pace_keeps : (bounds : Bounds) (draft : Draft) (given : Result Pace ReaderKind) (next : Draft) → IsDraft bounds draft
+pace_keeps : (bounds : Bounds) (draft : ReaderDraft) (given : Result Pace ReaderKind) (next : ReaderDraft)
+    → IsDraft bounds draft
     → ((paced : Pace) → given ≡ Ok paced → IsPace paced) → pace_after draft given ≡ Ok next → IsDraft bounds next
 pace_keeps bounds draft given next p k h =
     once_keeps (λ paced. record draft { pace = paced }) draft.pace given next (IsDraft bounds)
     (λ paced e. record { pace = k paced e; stalls = p.stalls; phases = p.phases; more = p.more }) h
 
-phases_keep : (bounds : Bounds) (draft : Draft) (given : Result Phases ReaderKind) (next : Draft) → IsDraft bounds draft
+phases_keep : (bounds : Bounds) (draft : ReaderDraft) (given : Result Phases ReaderKind) (next : ReaderDraft)
+    → IsDraft bounds draft
     → ((said : Phases) → given ≡ Ok said → ArePhases bounds.tov false said) → drafts.phases_after draft given ≡ Ok next
     → IsDraft bounds next
 phases_keep bounds draft given next p k h =
     once_keeps (λ said. record draft { phases = said }) draft.phases given next (IsDraft bounds)
     (λ said e. record { pace = p.pace; stalls = p.stalls; phases = k said e; more = p.more }) h
 
-value_keeps : (bounds : Bounds) (draft : Draft) (said : ReaderWord) (value : List ℕ) (next : Draft) → IsDraft bounds draft
+value_keeps : (bounds : Bounds) (draft : ReaderDraft) (said : ReaderWord) (value : List ℕ) (next : ReaderDraft)
+    → IsDraft bounds draft
     → value_after bounds.tov draft said value ≡ Ok next → IsDraft bounds next
 value_keeps bounds draft word.Pause value next p h = pace_keeps bounds draft (pause_in value) next p (pause_sound value) h
 value_keeps bounds draft word.Poll value next p h = pace_keeps bounds draft (poll_in value) next p (poll_sound value) h
@@ -156,7 +159,7 @@ value_keeps bounds draft word.From value next p h =
     (λ from e. record { pace = p.pace; stalls = p.stalls; phases = p.phases; more = p.more }) h
 value_keeps bounds draft said value next p h = cc
 
-pair_keeps : (bounds : Bounds) (draft : Draft) (said : ReaderWord) (value second : List ℕ) (next : Draft)
+pair_keeps : (bounds : Bounds) (draft : ReaderDraft) (said : ReaderWord) (value second : List ℕ) (next : ReaderDraft)
     → 0 < length second → IsDraft bounds draft → pair_after bounds.cpus draft said value second ≡ Ok next
     → IsDraft bounds next
 pair_keeps bounds draft word.Stall value second next some p h =
@@ -178,7 +181,7 @@ pair_keeps bounds draft word.More value second next some p h =
     }) h
 pair_keeps bounds draft said value second next some p h = cc
 
-values_keep : (bounds : Bounds) (draft : Draft) (said : ReaderWord) (values : List (List ℕ)) (next : Draft)
+values_keep : (bounds : Bounds) (draft : ReaderDraft) (said : ReaderWord) (values : List (List ℕ)) (next : ReaderDraft)
     → All HasByte values → IsDraft bounds draft → values_after bounds draft said values ≡ Ok next → IsDraft bounds next
 unfolding values_after
 values_keep bounds draft said [] next all p h = word_keeps bounds draft said next p h
@@ -188,18 +191,19 @@ values_keep bounds draft said (value ∷ second ∷ []) next all p h =
     (All-head HasByte second [] (All-tail HasByte value (second ∷ []) all)) p h
 values_keep bounds draft said (value ∷ second ∷ third ∷ more) next all p h = cc
 
-named_keep : (bounds : Bounds) (draft : Draft) (said : Option ReaderWord) (values : List (List ℕ)) (next : Draft)
+named_keep : (bounds : Bounds) (draft : ReaderDraft) (said : Option ReaderWord) (values : List (List ℕ)) (next : ReaderDraft)
     → All HasByte values → IsDraft bounds draft → named_after bounds draft said values ≡ Ok next → IsDraft bounds next
 named_keep bounds draft None values next all p h = cc
 named_keep bounds draft (Some said) values next all p h = values_keep bounds draft said values next all p h
 
-words_keep : (bounds : Bounds) (draft : Draft) (words : List (List ℕ)) (next : Draft) → All HasByte words
+words_keep : (bounds : Bounds) (draft : ReaderDraft) (words : List (List ℕ)) (next : ReaderDraft) → All HasByte words
     → IsDraft bounds draft → words_after bounds draft words ≡ Ok next → IsDraft bounds next
 words_keep bounds draft [] next all p h = subst (IsDraft bounds) (ok_same draft next h) p
 words_keep bounds draft (first ∷ values) next all p h =
     named_keep bounds draft (word_named first) values next (All-tail HasByte first values all) p h
 
-plain_keeps : (bounds : Bounds) (draft : Draft) (plain : Bool) (words : List (List ℕ)) (next : Draft) → All HasByte words
+plain_keeps : (bounds : Bounds) (draft : ReaderDraft) (plain : Bool) (words : List (List ℕ)) (next : ReaderDraft)
+    → All HasByte words
     → IsDraft bounds draft → (if plain then words_after bounds draft words else Err BadLine) ≡ Ok next
     → IsDraft bounds next
 plain_keeps bounds draft true words next all p h = words_keep bounds draft words next all p h
@@ -214,7 +218,8 @@ unfolding words_of
 words_have_bytes line = All-weaker (λ word. is_word word ≡ true) HasByte word_has_byte
     (filter is_word (slice_split is_blank line)) (filter_passes is_word (slice_split is_blank line))
 
-pub line_keeps : (bounds : Bounds) (draft : Draft) (line : List ℕ) (next : Draft) → line_after bounds draft line ≡ Ok next
+pub line_keeps : (bounds : Bounds) (draft : ReaderDraft) (line : List ℕ) (next : ReaderDraft)
+    → line_after bounds draft line ≡ Ok next
     → IsDraft bounds draft → IsDraft bounds next
 unfolding line_after
 line_keeps bounds draft line next h p =

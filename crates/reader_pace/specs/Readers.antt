@@ -6,7 +6,7 @@ use Rattle.text_lines.specs.Readings.{read_lines}
 use Rattle.reader_pace.specs.Drafts.{line_after, nothing_said}
 use Rattle.reader_pace.specs.Values.{is_below_period}
 use Rattle.reader_pace.specs.declared.drafts.Bounds.{Bounds}
-use Rattle.reader_pace.specs.declared.drafts.Draft.{Draft}
+use Rattle.reader_pace.specs.declared.drafts.ReaderDraft.{ReaderDraft}
 use Rattle.reader_pace.specs.declared.paces.Beginnings.{Beginnings}
 use Rattle.reader_pace.specs.declared.paces.Beginnings.TheVariants as beginnings
 use Rattle.reader_pace.specs.declared.paces.Pace.{Pace}
@@ -17,7 +17,7 @@ use Rattle.reader_pace.specs.declared.reader_error.ReaderError.{ReaderError}
 use Rattle.reader_pace.specs.declared.reader_error.ReaderKind.{ReaderKind}
 use Rattle.reader_pace.specs.declared.reader_error.ReaderKind.TheVariants.{BadFrom, BadPhase}
 use Rattle.reader_pace.specs.declared.reader_error.ReaderKind.TheVariants.{Missing, TooLarge}
-use Rattle.reader_pace.specs.declared.readers.Reader.{Reader}
+use Rattle.reader_pace.specs.declared.readers.PacedReader.{PacedReader}
 
 -- ---- what the lines say together
 
@@ -39,8 +39,8 @@ beginnings_after paced (Some (beginnings.One from)) =
     if is_below_period paced from then Ok (beginnings.One from) else Err BadFrom
 
 abbrev pub reader_from :
-    Draft → Pace → Result Phases ReaderKind → Result Beginnings ReaderKind
-    → Result Reader ReaderKind
+    ReaderDraft → Pace → Result Phases ReaderKind → Result Beginnings ReaderKind
+    → Result PacedReader ReaderKind
 reader_from draft paced (Ok phases) (Ok beginnings) = Ok (record {
   pace = paced;
   stalls = draft.stalls;
@@ -52,14 +52,14 @@ reader_from draft paced (Ok phases) (Ok beginnings) = Ok (record {
 reader_from draft paced (Ok phases) (Err fault) = Err fault
 reader_from draft paced (Err fault) beginnings = Err fault
 
-abbrev pub with_pace : Draft → Option Pace → Result Reader ReaderKind
+abbrev pub with_pace : ReaderDraft → Option Pace → Result PacedReader ReaderKind
 with_pace draft None = Err Missing
 with_pace draft (Some paced) =
     reader_from draft paced (phases_after draft.slots draft.phases)
     (beginnings_after paced draft.beginnings)
 
 -- what lines without a fault in any of them say together
-unfoldable pub reader_after : Draft → Result Reader ReaderKind
+unfoldable pub reader_after : ReaderDraft → Result PacedReader ReaderKind
 reader_after draft = with_pace draft draft.pace
 
 -- ---- the whole text
@@ -74,15 +74,15 @@ at_end (Ok value) = Ok value
 at_end (Err fault) = Err (record { line = 0; kind = fault })
 
 -- what the lines of a text say, or the first fault of a line
-unfoldable pub draft_of : Bounds → List ℕ → Result Draft ReaderError
+unfoldable pub draft_of : Bounds → List ℕ → Result ReaderDraft ReaderError
 draft_of bounds text = at_line (read_lines (line_after bounds) 1 nothing_said (lines_of text))
 
-abbrev pub completed : Result Draft ReaderError → Result Reader ReaderError
+abbrev pub completed : Result ReaderDraft ReaderError → Result PacedReader ReaderError
 completed (Ok draft) = at_end (reader_after draft)
 completed (Err error) = Err error
 
 -- the reader of a text, for a setup of so many CPUs with this time-out, or the text's first fault
-unfoldable pub reader_of : ℕ → ℕ → List ℕ → Result Reader ReaderError
+unfoldable pub reader_of : ℕ → ℕ → List ℕ → Result PacedReader ReaderError
 reader_of cpus tov text =
     if nat_lt 1048576 (length text) then Err (record { line = 0; kind = TooLarge })
     else completed (draft_of (record { cpus = cpus; tov = tov }) text)

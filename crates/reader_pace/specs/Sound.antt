@@ -8,7 +8,7 @@ use Rattle.reader_pace.specs.declared.paces.Pace.TheVariants as pace
 use Rattle.reader_pace.specs.declared.paces.Phases.{Phases}
 use Rattle.reader_pace.specs.declared.paces.Phases.TheVariants as phases
 use Rattle.reader_pace.specs.declared.paces.Stall.{Stall}
-use Rattle.reader_pace.specs.declared.readers.Reader.{Reader}
+use Rattle.reader_pace.specs.declared.readers.PacedReader.{PacedReader}
 
 -- a reader sleeps for at least a millisecond, and takes at least one block a second
 abbrev pub IsPace : Pace → Type 0
@@ -40,7 +40,7 @@ pub record IsMoreFile (cpus : ℕ) (more : MoreFile) : Type 0 where
   pub named : 0 < length more.file
   pub name : length more.file ≤ 255
 
-pub record IsReader (cpus tov : ℕ) (reader : Reader) : Type 0 where
+pub record IsReader (cpus tov : ℕ) (reader : PacedReader) : Type 0 where
   pub pace : IsPace reader.pace
   pub stalls : All IsStall reader.stalls
   pub phases : ArePhases tov reader.slots reader.phases

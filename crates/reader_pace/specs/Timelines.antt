@@ -10,7 +10,7 @@ use Rattle.setup_text.specs.declared.lines.Line.TheVariants as line
 use Rattle.reader_pace.specs.declared.paces.Pace.{Pace}
 use Rattle.reader_pace.specs.declared.paces.Pace.TheVariants as pace
 use Rattle.reader_pace.specs.declared.paces.Stall.{Stall}
-use Rattle.reader_pace.specs.declared.readers.Reader.{Reader}
+use Rattle.reader_pace.specs.declared.readers.PacedReader.{PacedReader}
 
 -- a line of a schedule, and the moment at which it is done
 pub record Timed : Type 0 where
@@ -168,7 +168,7 @@ timeline_with ticks feeds (Some reads) = Some (in_order (ticks ++ (feeds ++ read
 
 -- what is done, each line at its moment, if the timer was started so many milliseconds before the
 -- first frame and the reader begins so many milliseconds after it
-unfoldable pub timeline_of : Judged → Reader → ℕ → ℕ → Option (List Timed)
+unfoldable pub timeline_of : Judged → PacedReader → ℕ → ℕ → Option (List Timed)
 timeline_of judged reader phase from =
     timeline_with (ticks_unless reader.slots judged.tov phase (end_of judged.times))
     (feeds_of judged.times)
@@ -183,5 +183,5 @@ lines_of_timeline None = None
 lines_of_timeline (Some items) = Some (map line_of items)
 
 -- the schedule of a reader at a phase and a beginning, for rings of so many blocks
-abbrev pub schedule_at : Judged → Reader → ℕ → ℕ → Option (List Line)
+abbrev pub schedule_at : Judged → PacedReader → ℕ → ℕ → Option (List Line)
 schedule_at judged reader phase from = lines_of_timeline (timeline_of judged reader phase from)

@@ -14,7 +14,7 @@ use text_lines::{is_plain, next_word};
 
 /// What the lines of a reader's text say so far; `None` and `false` if no line says it.
 #[derive(Drop)]
-pub(crate) struct Draft {
+pub(crate) struct ReaderDraft {
     /// When the members are read.
     pub(crate) pace: Option<Pace>,
     /// The times in which no reader reads.
@@ -38,12 +38,12 @@ pub(crate) struct Bounds {
     pub(crate) tov: u32,
 }
 
-impl Draft {
+impl ReaderDraft {
     /// What is said before the first line.
-    pub(crate) fn new(alloc: Global) -> Draft
+    pub(crate) fn new(alloc: Global) -> ReaderDraft
         ensures { result ≡ nothing_said }
     {
-        Draft {
+        ReaderDraft {
             pace: None,
             stalls: StallList::new(alloc),
             phases: None,

@@ -8,12 +8,12 @@ ghost use Rattle.reader_pace.specs.Timelines.{Judged, Timed, block_step, block_s
 ghost use Rattle.reader_pace.specs.Timelines.{feeds_of, in_order, pause_step, pause_steps};
 ghost use Rattle.reader_pace.specs.Timelines.{schedule_at, steps_of};
 ghost use Rattle.reader_pace.specs.Timelines.{tick_at, ticks_by, timeline_of};
-ghost use Rattle.reader_pace.specs.declared.readers.Reader.{Reader};
+ghost use Rattle.reader_pace.specs.declared.readers.PacedReader.{PacedReader};
 
 /// The schedule of a reader is one: its ticks never go back, and no label is above 4,294,967,295,
 /// if the phase is below the time-out and the last frame comes no later than such a label can say.
 pub fn a_readers_schedule_is_one()
-    ensures { (judged : Judged) (reader : Reader) (phase from : ℕ) (lines : List Line)
+    ensures { (judged : Judged) (reader : PacedReader) (phase from : ℕ) (lines : List Line)
         → phase < judged.tov
         → end_of judged.times + phase * 1000000 ≤ 4294967295 * 1000000
         → schedule_at judged reader phase from ≡ Some lines → IsSchedule lines }
@@ -21,21 +21,21 @@ pub fn a_readers_schedule_is_one()
 
 /// Moments never go back along a timeline.
 pub fn a_timeline_never_goes_back()
-    ensures { (judged : Judged) (reader : Reader) (phase from : ℕ) (items : List Timed)
+    ensures { (judged : Judged) (reader : PacedReader) (phase from : ℕ) (items : List Timed)
         → timeline_of judged reader phase from ≡ Some items → RiseFrom 0 items }
 {}
 
 /// The feeds of a timeline are those of the frames alone, in the order of their moments, and at one
 /// moment in the order of their CPUs, whatever the timer and the reader do.
 pub fn the_feeds_are_those_of_the_frames()
-    ensures { (judged : Judged) (reader : Reader) (phase from : ℕ) (items : List Timed)
+    ensures { (judged : Judged) (reader : PacedReader) (phase from : ℕ) (items : List Timed)
         → timeline_of judged reader phase from ≡ Some items
         → filter is_feed items ≡ in_order (feeds_of judged.times) }
 {}
 
 /// No read is in a stall: at its beginning or after it, and before its end.
 pub fn no_read_is_in_a_stall()
-    ensures { (judged : Judged) (reader : Reader) (phase from : ℕ) (items : List Timed)
+    ensures { (judged : Judged) (reader : PacedReader) (phase from : ℕ) (items : List Timed)
         → timeline_of judged reader phase from ≡ Some items → All (IsAwake reader.stalls) items }
 {}
 

@@ -6,14 +6,14 @@ ghost use Rattle.reader_pace.specs.Readers.{beginnings_after, draft_of, phases_a
 ghost use Rattle.reader_pace.specs.Readers.{reader_of};
 ghost use Rattle.reader_pace.specs.Sound.{IsReader};
 
-use crate::drafts::{Bounds, Draft};
+use crate::drafts::{Bounds, ReaderDraft};
 use crate::{Beginnings, MoreFiles, Pace, Phases, ReaderError, ReaderKind, StallList};
 use std::alloc::Global;
 use text_lines::{LARGEST_TEXT, is_passed_over, next_line};
 
 /// How the members of a group are read, and whenever the timer and the reader may have begun.
 #[derive(Debug, Drop)]
-pub struct Reader {
+pub struct PacedReader {
     /// When the members are read.
     pub pace: Pace,
     /// The times in which no reader reads.
@@ -35,7 +35,12 @@ pub struct Reader {
 /// is reported, with its number from 1. If no line has one, `Missing` if no line says the pace,
 /// then `BadPhase` and then `BadFrom`, each with line 0. `Memory`, an allocation that failed, has
 /// line 0 too.
-pub fn read_reader(alloc: Global, text: &[u8], cpus: u32, tov: u32) -> Result<Reader, ReaderError>
+pub fn read_reader(
+    alloc: Global,
+    text: &[u8],
+    cpus: u32,
+    tov: u32,
+) -> Result<PacedReader, ReaderError>
     ensures right { IsRight is_reader_want result (reader_of cpus tov text.now) }
     ensures memory { IsOnlyWant is_reader_want reader_memory result }
     ensures sound { IfOk result (IsReader cpus tov) }
@@ -54,12 +59,12 @@ pub fn read_reader(alloc: Global, text: &[u8], cpus: u32, tov: u32) -> Result<Re
 }
 
 /// What the lines of a text say.
-fn draft_of(alloc: Global, bounds: Bounds, text: &[u8]) -> Result<Draft, ReaderError>
+fn draft_of(alloc: Global, bounds: Bounds, text: &[u8]) -> Result<ReaderDraft, ReaderError>
     requires { length text.now ≤ 1048576 }
     ensures right { IsRight is_reader_want result (draft_of bounds text.now) }
     ensures memory { IsOnlyWant is_reader_want reader_memory result }
 {
-    let mut draft = Draft::new(alloc);
+    let mut draft = ReaderDraft::new(alloc);
     let mut rest = text;
     let mut number: u32 = 1;
     while let Some((line, behind)) = next_line(rest) {
@@ -89,7 +94,7 @@ fn at_line(number: u32, kind: ReaderKind) -> ReaderError
 
 /// The reader of lines without a fault in any of them, or what is wrong with them together.
 #[tactic(auto, unfolding(crate::specs::Readers::reader_after))]
-fn complete(draft: Draft) -> Result<Reader, ReaderKind>
+fn complete(draft: ReaderDraft) -> Result<PacedReader, ReaderKind>
     ensures { result ≡ reader_after draft }
 {
     let Some(pace) = draft.pace else {
@@ -97,7 +102,7 @@ fn complete(draft: Draft) -> Result<Reader, ReaderKind>
     };
     let phases = phases_of(draft.slots, draft.phases)?;
     let beginnings = beginnings_of(pace, draft.beginnings)?;
-    Ok(Reader {
+    Ok(PacedReader {
         pace,
         stalls: draft.stalls,
         phases,

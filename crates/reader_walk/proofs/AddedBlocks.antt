@@ -9,7 +9,8 @@ use Rattle.reader_walk.specs.Texts.{kept_if}
 use Rattle.reader_walk.specs.declared.copies.Copies.{Copies}
 use Rattle.reader_walk.proofs.MarkedBlocks.{counted_more, dump_more, one_more}
 
-sound_with : {E : Type 0} (text : RingRequest → Taken → List ℕ) (shape : RingRequest) (dumps : Bool) (before after : Copies) (taken : Taken)
+sound_with : {E : Type 0} (text : RingRequest → Taken → List ℕ) (shape : RingRequest) (dumps : Bool) (before after : Copies)
+    (taken : Taken)
     (result : Result (Unit {0}) E) → IsSound text shape dumps before
     → Adds taken (kept_if dumps (text shape taken)) before after result → IsSound text shape dumps after
 sound_with text shape dumps before after taken (Ok u) sound adds = record {
@@ -28,7 +29,8 @@ sound_with text shape dumps before after taken (Err e) sound adds = record {
   dump = rw (adds.same_dump, adds.same_marks, adds.same_walked) sound.dump;
 }
 
-ok_with : {E : Type 0} (text : RingRequest → Taken → List ℕ) (taken_in : RingRequest → List ℕ → Taken) (shape : RingRequest) (dumps : Bool)
+ok_with : {E : Type 0} (text : RingRequest → Taken → List ℕ) (taken_in : RingRequest → List ℕ → Taken) (shape : RingRequest)
+    (dumps : Bool)
     (held : Option (List ℕ)) (bytes : List ℕ) (before after : Copies) (value : ReaderValue) (kept : List ℕ)
     (result : Result (Unit {0}) E)
     → reader_value shape dumps before held ≡ value → IsSound text shape dumps before
@@ -40,7 +42,8 @@ ok_with text taken_in shape dumps held bytes before after value kept (Ok u) view
     ∙ ap (λ (v : ReaderValue). record (has_read taken_in bytes v) { held = v.held }) view
 ok_with text taken_in shape dumps held bytes before after value kept (Err e) view sound adds = tt
 
-err_with : {E : Type 0} (taken : Taken) (kept : List ℕ) (shape : RingRequest) (dumps : Bool) (held : Option (List ℕ)) (before after : Copies)
+err_with : {E : Type 0} (taken : Taken) (kept : List ℕ) (shape : RingRequest) (dumps : Bool) (held : Option (List ℕ))
+    (before after : Copies)
     (value : ReaderValue) (result : Result (Unit {0}) E) → reader_value shape dumps before held ≡ value
     → Adds taken kept before after result → OnErr result (reader_value shape dumps after held ≡ value)
 err_with taken kept shape dumps held before after value (Ok u) view adds = tt

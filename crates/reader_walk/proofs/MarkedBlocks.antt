@@ -9,11 +9,11 @@ use Rattle.frame_view.specs.declared.frames.Packet.{Packet}
 use Rattle.tp_layout.specs.Layouts.{Taken}
 use Rattle.tp_layout.specs.declared.requests.RingRequest.{RingRequest}
 use Rattle.reader_walk.specs.Readers.{kept_texts, texts_by, walked_of}
-use Rattle.reader_walk.specs.ReadersInside.{mark_of, packets_in, taken_by}
+use Rattle.reader_walk.specs.ReadersInside.{remnant_of, packets_in, taken_by}
 use Rattle.reader_walk.specs.Texts.{kept_if}
-use Rattle.reader_walk.specs.declared.copies.Mark.{Mark}
+use Rattle.reader_walk.specs.declared.copies.Remnant.{Remnant}
 
-pub as_many : (marks : List Mark) (packets : List Packet) → length (taken_by marks packets) ≡ length marks
+pub as_many : (marks : List Remnant) (packets : List Packet) → length (taken_by marks packets) ≡ length marks
 unfolding taken_by
 as_many [] packets = refl
 as_many (mark ∷ marks) packets = rw (as_many marks (drop mark.packets packets)) refl
@@ -26,7 +26,7 @@ length_drop n m xs e =
     omega arith
 
 -- the packets of all blocks are all packets
-pub all_walked : (marks : List Mark) (packets : List Packet) → packets_in marks ≡ length packets
+pub all_walked : (marks : List Remnant) (packets : List Packet) → packets_in marks ≡ length packets
     → walked_of (taken_by marks packets) ≡ packets
 unfolding taken_by walked_of
 all_walked [] [] e = refl
@@ -36,8 +36,8 @@ all_walked (mark ∷ marks) packets e =
     (take-append-drop mark.packets packets)
 
 -- one more block
-pub one_more : (marks : List Mark) (packets : List Packet) (more : Taken) → packets_in marks ≡ length packets
-    → taken_by (marks ++ mark_of more ∷ []) (packets ++ more.packets) ≡ taken_by marks packets ++ more ∷ []
+pub one_more : (marks : List Remnant) (packets : List Packet) (more : Taken) → packets_in marks ≡ length packets
+    → taken_by (marks ++ remnant_of more ∷ []) (packets ++ more.packets) ≡ taken_by marks packets ++ more ∷ []
 unfolding taken_by
 one_more [] [] more e = rw (take-length more.packets) refl
 one_more [] (packet ∷ packets) more e = cc
@@ -49,8 +49,8 @@ one_more (first ∷ marks) packets more e =
       one_more marks (drop first.packets packets) more (length_drop first.packets (packets_in marks) packets e),
     ) refl
 
-pub counted_more : (marks : List Mark) (packets : List Packet) (more : Taken) → packets_in marks ≡ length packets
-    → packets_in (marks ++ mark_of more ∷ []) ≡ length (packets ++ more.packets)
+pub counted_more : (marks : List Remnant) (packets : List Packet) (more : Taken) → packets_in marks ≡ length packets
+    → packets_in (marks ++ remnant_of more ∷ []) ≡ length (packets ++ more.packets)
 counted_more [] packets more e =
     let split = length-append packets more.packets in omega arith
 counted_more (first ∷ marks) packets more e =

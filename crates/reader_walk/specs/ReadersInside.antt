@@ -6,19 +6,19 @@ use Rattle.tp_layout.specs.Layouts.{Taken}
 use Rattle.tp_layout.specs.declared.requests.RingRequest.{RingRequest}
 use Rattle.reader_walk.specs.Dumps.{texts_in}
 use Rattle.reader_walk.specs.Readers.{ReaderValue, kept_texts}
-use Rattle.reader_walk.specs.declared.copies.Mark.{Mark}
+use Rattle.reader_walk.specs.declared.copies.Remnant.{Remnant}
 use Rattle.reader_walk.specs.declared.copies.Copies.{Copies}
 
 -- what is kept of a block or a slot beside its packets
-abbrev pub mark_of : Taken → Mark
-mark_of taken = record {
+abbrev pub remnant_of : Taken → Remnant
+remnant_of taken = record {
   number = taken.number;
   status = taken.status;
   packets = length taken.packets;
 }
 
 -- the blocks of some marks, whose packets follow one another
-unfoldable pub taken_by : List Mark → List Packet → List Taken
+unfoldable pub taken_by : List Remnant → List Packet → List Taken
 taken_by [] packets = []
 taken_by (mark ∷ marks) packets =
     record { number = mark.number; status = mark.status; packets = take mark.packets packets }
@@ -37,7 +37,7 @@ reader_value shape dumps copies held = record {
 }
 
 -- how many packets the blocks of some marks have
-abbrev pub packets_in : List Mark → ℕ
+abbrev pub packets_in : List Remnant → ℕ
 packets_in [] = 0
 packets_in (mark ∷ marks) = mark.packets + packets_in marks
 
@@ -50,7 +50,7 @@ pub record IsSound (text : RingRequest → Taken → List ℕ) (shape : RingRequ
 -- what was taken was added to what was read, with this part of its text, or all is as before
 pub record Adds {E : Type 0} (taken : Taken) (text : List ℕ) (before after : Copies)
     (result : Result (Unit {0}) E) : Type 0 where
-  pub marks : OnOk result (after.marks.items ≡ before.marks.items ++ mark_of taken ∷ [])
+  pub marks : OnOk result (after.marks.items ≡ before.marks.items ++ remnant_of taken ∷ [])
   pub walked : OnOk result (after.walked.items ≡ before.walked.items ++ taken.packets)
   pub dump : OnOk result (texts_in after.dump ≡ texts_in before.dump ++ text)
   pub same_marks : OnErr result (after.marks.items ≡ before.marks.items)

@@ -11,7 +11,7 @@ use tp_layout::Layout;
 
 /// What is kept of a block or a slot beside its packets.
 #[derive(Clone, Copy)]
-pub(crate) struct Mark {
+pub(crate) struct Remnant {
     /// Its number.
     pub(crate) number: u64,
     /// The status that it was retired with.
@@ -24,7 +24,7 @@ pub(crate) struct Mark {
 #[derive(Drop)]
 pub(crate) struct Copies {
     /// The blocks or slots, in order.
-    pub(crate) marks: Vec<Mark>,
+    pub(crate) marks: Vec<Remnant>,
     /// Their packets, in order.
     pub(crate) walked: Vec<Packet>,
     /// Their texts, in order, if they are kept.
@@ -130,7 +130,7 @@ impl Copies {
             self.dump.take_back(texts);
             return pushed;
         }
-        self.marks.push_reserved(Mark {
+        self.marks.push_reserved(Remnant {
             number: head.0,
             status: head.1,
             packets: self.walked.len() - earlier,

@@ -2,13 +2,10 @@
 ghost use Rattle.std.specs.Prelude.{◌≡◌, ◌++◌, [], flat_map, IfOk, OnErr, OnOk};
 ghost use Rattle.reader_walk.specs.Dumps.{front_in, texts_in};
 
-use frame_view::Memory;
+use frame_view::{Memory, PIECE};
 use std::alloc::Global;
 use std::marker::Model;
 use std::mem;
-
-/// The least room of a piece, in bytes: this project's own choice.
-const PIECE: usize = 65_536;
 
 /// Texts one after another, in pieces of memory. Each text is in one piece.
 #[derive(Debug, Drop)]

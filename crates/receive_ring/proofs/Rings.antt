@@ -151,7 +151,8 @@ pub read_open : (size : Size) (clock : ℕ) (ring : Ring) → IsOpen size clock 
 read_open size clock ring h = released_open size clock ring (nat_lt ring.released (length (state ring).done)) h
 
 -- the last note closes it
-pub closed_run : (size : Size) (clock : ℕ) (ring : Ring) → IsOpen size clock ring → IsRingReport size (IsWholeBy Blocks size) (noted ring Finished)
+pub closed_run : (size : Size) (clock : ℕ) (ring : Ring) → IsOpen size clock ring
+    → IsRingReport size (IsWholeBy Blocks size) (noted ring Finished)
 closed_run size clock ring h = record {
   size_is = h.size_is;
   run = record {

@@ -16,7 +16,8 @@ impl ReceiveRing for SlotProducer<PlainRing<Slot>> {
     type Unit = Slot;
 
     ghost use Rattle.std.specs.Prelude.{refl};
-    ghost use Rattle.receive_ring.specs.SlotLaws.{all_slots, few_slots, slots_grow, slots_read_back};
+    ghost use Rattle.receive_ring.specs.SlotLaws.{all_slots, few_slots, slots_grow};
+    ghost use Rattle.receive_ring.specs.SlotLaws.{slots_read_back};
     ghost use Rattle.receive_ring.specs.SlotLaws.{stays_slots, took_slot};
     ghost use Rattle.receive_ring.specs.SlotRings.{seen_slots, slot_reads, steps_of_slots};
     ghost use Rattle.run_reports.specs.declared.ring_kind.RingKind.TheVariants.{Slots};

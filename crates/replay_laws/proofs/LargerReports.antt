@@ -4,7 +4,7 @@ use Rattle.std.specs.Prelude.{map, slice_get}
 use Rattle.std.proofs.lemmas.List.Elements.{All-cons, All-head, All-nil, All-tail}
 use Rattle.capture_file.specs.declared.cpu_end.CpuEnd.{CpuEnd}
 use Rattle.fanout_group.specs.Arrivals.{arrivals_at}
-use Rattle.fanout_group.specs.Judgements.{Lens, rules_by}
+use Rattle.fanout_group.specs.Judgements.{JudgeRules, rules_by}
 use Rattle.fanout_group.specs.Plans.{has_defrag}
 use Rattle.fanout_group.specs.Rules.{Rules}
 use Rattle.frame_view.specs.declared.frames.Frame.{Frame}
@@ -122,34 +122,35 @@ of_slots = record {
 }
 
 -- the rules and arrivals of a setup, with the filter of a job
-abbrev pub lens_in : Job → Setup → Lens
-lens_in job setup = record {
+abbrev pub judge_rules_in : Job → Setup → JudgeRules
+judge_rules_in job setup = record {
   key = setup.key;
   filter = job.program;
   own = setup.mac;
   queue = λ cpu. queue_in (slice_get setup.cpus cpu);
 }
 
-abbrev pub reported_in : Kind → Lens → Setup → List Line → List (List ℕ) → List CpuEnd → RunReport
-reported_in kind lens setup lines all ends =
+abbrev pub reported_in : Kind → JudgeRules → Setup → List Line → List (List ℕ) → List CpuEnd → RunReport
+reported_in kind judge setup lines all ends =
     report_with (kind.reported setup.shape setup.dump) all ends
-    (replayed (rules_by setup.plan lens) (kind.steps setup.shape)
+    (replayed (rules_by setup.plan judge) (kind.steps setup.shape)
     (map (arrivals_at (has_defrag setup.plan.flags)) (captures_from 0 all)) lines)
 
-same_lens : (job other : Job) (setup : Setup) → other.program ≡ job.program → lens_in other setup ≡ lens_in job setup
-same_lens job other setup e = cc e
+same_judge_rules : (job other : Job) (setup : Setup) → other.program ≡ job.program
+    → judge_rules_in other setup ≡ judge_rules_in job setup
+same_judge_rules job other setup e = cc e
 
 -- the other job's report is that of the first one's setup with the other shape
 pub by_setup : (kind : Kind) (job other : Job) (blocks frames : ℕ) (lines : List Line) (all : List (List ℕ))
     (ends : List CpuEnd)
     → IsReshaped blocks frames job other
-    → reported_in kind (lens_in other other.setup) other.setup lines all ends
-    ≡ reported_in kind (lens_in job job.setup)
+    → reported_in kind (judge_rules_in other other.setup) other.setup lines all ends
+    ≡ reported_in kind (judge_rules_in job job.setup)
     (record job.setup { shape = reshaped job.setup.shape blocks frames }) lines all ends
 by_setup kind job other blocks frames lines all ends h =
     let more : Setup = record job.setup { request = other.setup.request; shape = reshaped job.setup.shape blocks frames } in
-    ap (λ (setup : Setup). reported_in kind (lens_in other setup) setup lines all ends) h.setup
-    ∙ ap (λ (lens : Lens). reported_in kind lens more lines all ends) (same_lens job other more h.program)
+    ap (λ (setup : Setup). reported_in kind (judge_rules_in other setup) setup lines all ends) h.setup
+    ∙ ap (λ (judge : JudgeRules). reported_in kind judge more lines all ends) (same_judge_rules job other more h.program)
 
 pub blocks_never_froze : (job other : Job) (lines : List Line) (all : List (List ℕ)) (ends : List CpuEnd)
     → HasMoreBlocks job other
@@ -168,7 +169,7 @@ blocks_never_froze job other lines all ends h free =
     (member_of (block_rules (reshaped shape h.blocks h.frames)) job.setup.dump)
     (member_same shape h.blocks h.frames job.setup.dump)
     (λ ring. refl)
-    (rules_by job.setup.plan (lens_in job job.setup)) _ lines all ends free
+    (rules_by job.setup.plan (judge_rules_in job job.setup)) _ lines all ends free
 
 pub slots_never_froze : (job other : Job) (lines : List Line) (all : List (List ℕ)) (ends : List CpuEnd)
     → HasMoreSlots job other
@@ -187,4 +188,4 @@ slots_never_froze job other lines all ends h free =
     ∙ reports_same (slot_steps (slot_size_of shape)) (slot_steps (slot_size_of (reshaped shape h.blocks h.frames)))
     (slots_agree (slot_size_of shape) (slot_size_of (reshaped shape h.blocks h.frames)) larger) reported
     reported same (λ ring. refl)
-    (rules_by job.setup.plan (lens_in job job.setup)) _ lines all ends free
+    (rules_by job.setup.plan (judge_rules_in job job.setup)) _ lines all ends free

@@ -29,7 +29,8 @@ use Rattle.tp_layout.specs.declared.requests.RingRequest.{RingRequest}
 -- ---- what is reported of a closed ring is what its reader read
 
 module _ (rings : RingRules) (text : RingRequest → Taken → List ℕ) (reads : RingRequest → List Note → List Taken)
-    (shape : RingRequest) (back : (notes : List Note) → rings.IsWhole notes → IsReadBack rings text shape (reads shape notes) notes)
+    (shape : RingRequest) (back : (notes : List Note) → rings.IsWhole notes
+    → IsReadBack rings text shape (reads shape notes) notes)
   where
     dump_is : (asked : Bool) (notes : List Note) → texts_by text shape (reads shape notes) ≡ rings.dump notes
         → kept_texts text asked shape (reads shape notes) ≡ dump_where rings asked notes
@@ -80,7 +81,8 @@ module _ (runs : JobsRun) (closed : JobsRings) (kind : RingKind) (job : Job) (li
   unfolding report_of
   as_report new report h =
       h.report_is
-      ∙ same_reports reported (member_of rings job.setup.dump) (IsRingOf rings) h.bytes h.ends (replay_of rings job lines h.bytes)
+      ∙ same_reports reported (member_of rings job.setup.dump) (IsRingOf rings) h.bytes h.ends
+      (replay_of rings job lines h.bytes)
       (closed kind job lines h.bytes serves schedule) (read_back rings text reads job.setup.shape back job.setup.dump)
 
   is_replayed : (new : List (Option SourceSeen)) (report : RunReport) → IsOver rings.steps new report

@@ -3,7 +3,7 @@ use Rattle.std.proofs.Common.{◌≡◌, ℕ, ◌+◌, ◌%◌, ◌<◌, ◌≤�
 use Rattle.std.proofs.Common.{Option, None, Some, inl, inr, sym, ap, ◌∙◌, subst, arith, length-set}
 use Rattle.std.specs.Prelude.{All, slice_set, slice_index_or, unwrap_or}
 use Rattle.std.proofs.lemmas.List.Elements.{All-get_or, All-set}
-use Rattle.fanout_group.specs.Judgements.{Lens, first_entry, offer_by, rules_by}
+use Rattle.fanout_group.specs.Judgements.{JudgeRules, first_entry, offer_by, rules_by}
 use Rattle.fanout_group.specs.Paths.{Path, logged}
 use Rattle.fanout_group.specs.Plans.{Shape, rolls_over}
 use Rattle.fanout_group.specs.Routes.{IsRoute, present_after}
@@ -73,10 +73,10 @@ module _ (steps : RingSteps) (plan : Shape) (present queue : ℕ) (ticket : Opti
 
 -- ---- its tries
 
-module _ (plan : Shape) (lens : Lens) (steps : RingSteps) (present : ℕ) (ticket : Option ℕ) (frame : Frame)
+module _ (plan : Shape) (judge : JudgeRules) (steps : RingSteps) (present : ℕ) (ticket : Option ℕ) (frame : Frame)
     (tries : List Try) (old new : List Ring) where
   abbrev rules : Rules
-  rules = rules_by plan lens
+  rules = rules_by plan judge
 
   abbrev offer : Offer
   offer = offer_of steps.size.room rules.own (rules.hash frame) (rules.verdict frame) frame
@@ -84,14 +84,15 @@ module _ (plan : Shape) (lens : Lens) (steps : RingSteps) (present : ℕ) (ticke
   abbrev home : ℕ
   home = home_of rules present ticket frame
 
-  by_verdict : (ended : Bool) → IsTriedAs steps plan present (lens.queue frame.cpu) ticket (cond ended None (Some offer))
+  by_verdict : (ended : Bool) → IsTriedAs steps plan present (judge.queue frame.cpu) ticket (cond ended None (Some offer))
       tries old new
       → IsAsTried tries new (cond ended (record { tries = []; kept = false; members = old })
       (routed rules steps home offer old))
   by_verdict true h = record { tries_are = h.0; members_are = h.1 }
   by_verdict false h = routed_is rules steps home offer tries old new h.0 h.1
 
-  pub tries_are : IsTriedAs steps plan present (lens.queue frame.cpu) ticket (offer_by lens steps.size.room frame) tries old new
+  pub tries_are : IsTriedAs steps plan present (judge.queue frame.cpu) ticket
+      (offer_by judge steps.size.room frame) tries old new
       → IsAsTried tries new (tries_of rules steps home offer (rules.verdict frame) old)
   tries_are h = by_verdict (eqb (rules.verdict frame) 0) h
 
@@ -117,36 +118,36 @@ arrival_with rules steps cpu frame replay of =
     }
 
 -- a frame arrived at this CPU: it was judged, drew its ticket, and is logged with its tries
-pub record Looked (plan : Shape) (lens : Lens) (steps : RingSteps) (cpu : ℕ) (frame : Frame) (c : Feeding)
+pub record Looked (plan : Shape) (judge : JudgeRules) (steps : RingSteps) (cpu : ℕ) (frame : Frame) (c : Feeding)
     (old new : RunValue) : Type 0 where
   pub here : cpu_in old cpu ≡ c
   pub shape_is : c.path.shape ≡ plan
   pub tries : List Try
-  pub tried : IsTriedAs steps plan c.path.present (lens.queue frame.cpu) (ticket_of plan.mode old.ticket)
-      (offer_by lens steps.size.room frame) tries old.members new.members
+  pub tried : IsTriedAs steps plan c.path.present (judge.queue frame.cpu) (ticket_of plan.mode old.ticket)
+      (offer_by judge steps.size.room frame) tries old.members new.members
   pub cpus_are : new.cpus ≡ slice_set old.cpus cpu
       (record c {
-        path = logged (record (first_entry lens frame (ticket_of plan.mode old.ticket)) { tries = tries })
+        path = logged (record (first_entry judge frame (ticket_of plan.mode old.ticket)) { tries = tries })
             c.path;
       })
   pub ticket_is : new.ticket ≡ next_ticket plan.mode old.ticket
 
-module _ (plan : Shape) (lens : Lens) (steps : RingSteps) (cpu : ℕ) (frame : Frame) (c : Feeding) (old new : RunValue)
-    (l : Looked plan lens steps cpu frame c old new) (within : cpu < length old.cpus) where
+module _ (plan : Shape) (judge : JudgeRules) (steps : RingSteps) (cpu : ℕ) (frame : Frame) (c : Feeding) (old new : RunValue)
+    (l : Looked plan judge steps cpu frame c old new) (within : cpu < length old.cpus) where
   abbrev pub drawn : Option ℕ
   drawn = ticket_of plan.mode old.ticket
 
   abbrev tried : Tried
   tried =
-      tries_of (rules_by plan lens) steps (home_of (rules_by plan lens) c.path.present drawn frame)
-      (offer_of steps.size.room (rules_by plan lens).own ((rules_by plan lens).hash frame)
-      ((rules_by plan lens).verdict frame) frame) ((rules_by plan lens).verdict frame) old.members
+      tries_of (rules_by plan judge) steps (home_of (rules_by plan judge) c.path.present drawn frame)
+      (offer_of steps.size.room (rules_by plan judge).own ((rules_by plan judge).hash frame)
+      ((rules_by plan judge).verdict frame) frame) ((rules_by plan judge).verdict frame) old.members
 
   as_tried : IsAsTried l.tries new.members tried
-  as_tried = tries_are plan lens steps c.path.present drawn frame l.tries old.members new.members l.tried
+  as_tried = tries_are plan judge steps c.path.present drawn frame l.tries old.members new.members l.tried
 
   abbrev entry_with : List Try → ArrivalLog
-  entry_with ts = record (first_entry lens frame drawn) { tries = ts }
+  entry_with ts = record (first_entry judge frame drawn) { tries = ts }
 
   -- the CPU that logs it
   abbrev pub after : Mode → List Try → Feeding
@@ -159,7 +160,7 @@ module _ (plan : Shape) (lens : Lens) (steps : RingSteps) (cpu : ℕ) (frame : F
   cpus_are = l.cpus_are ∙ ap (λ (s : Shape). slice_set old.cpus cpu (after s.mode l.tries)) l.shape_is
 
   pub arrives : (all : List (List Frame)) → AreAllOf all new.cpus
-      → AreAllOf all old.cpus × (whole all new ≡ arrived (rules_by plan lens) steps cpu frame (whole all old))
+      → AreAllOf all old.cpus × (whole all new ≡ arrived (rules_by plan judge) steps cpu frame (whole all old))
   arrives all h =
       let a : List Frame = get_or all cpu [] in
       let g : AreAllOf all (slice_set old.cpus cpu (after plan.mode l.tries)) = subst
@@ -189,7 +190,7 @@ module _ (plan : Shape) (lens : Lens) (steps : RingSteps) (cpu : ℕ) (frame : F
               members = tried.members;
               ticket = t;
             }) l.ticket_is
-            ∙ ap (λ (of : Cpu). arrival_with (rules_by plan lens) steps cpu frame (whole all old) of) (sym was),
+            ∙ ap (λ (of : Cpu). arrival_with (rules_by plan judge) steps cpu frame (whole all old) of) (sym was),
       )
 
 -- a frame arrives at this CPU

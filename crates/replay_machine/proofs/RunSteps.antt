@@ -4,8 +4,8 @@ use Rattle.std.proofs.Common.{None, Some, inl, refl, sym, ap, ◌∙◌, subst, 
 use Rattle.std.specs.Prelude.{Err, IfOk, MatchBool, Ok, Result, map, slice_set}
 use Rattle.std.proofs.lemmas.List.{get_or-set_same, get_or_default, set-set}
 use Rattle.fanout_group.specs.Deliveries.{AreTriesOf, Received, TakesAllOf}
-use Rattle.fanout_group.specs.Judgements.{AgreesAt, IsJudged, Lens, first_entry, offer_by}
-use Rattle.fanout_group.specs.Lenses.{lens_of as lens_in}
+use Rattle.fanout_group.specs.Judgements.{AgreesAt, IsJudged, JudgeRules, first_entry, offer_by}
+use Rattle.fanout_group.specs.RulesOfJudging.{judge_rules_of as judge_rules_in}
 use Rattle.fanout_group.specs.Paths.{Path, logged}
 use Rattle.fanout_group.specs.Plans.{Shape}
 use Rattle.fanout_group.specs.Routes.{IsRoute}
@@ -22,7 +22,7 @@ use Rattle.setup_text.specs.declared.jobs.Job.{Job}
 use Rattle.cpu_feed.specs.Fed.{FedOne, IsAtItsEnd}
 use Rattle.cpu_feed.specs.CpuFeeds.{Feeding}
 use Rattle.cpu_feed.specs.Feeds.{Feeds as CpuFeeds, HasNone, ReceivesIfAny}
-use Rattle.run_reports.specs.Jobs.{lens_of, rules_of}
+use Rattle.run_reports.specs.Jobs.{judge_rules_of, rules_of}
 use Rattle.replay_machine.specs.RingGroups.{GroupValue, IsDrawn, IsMadeBy, TakesAt}
 use Rattle.replay_machine.specs.RunStates.{AreCpus, Does, Feeds, IsRun, RunValue, cpu_in, no_feeding, whole}
 use Rattle.replay_machine.specs.inside.RunRules.{AreRulesAt}
@@ -61,16 +61,16 @@ module _ (steps : RingSteps) (job : Job) (cpu : ℕ) (rules : ArrivalRules) (fra
     (after : GroupValue) (are : AreRulesAt steps job cpu rules) (within : cpu < length run.cpus) (place : frame.cpu ≡ cpu)
     (shape : c.path.shape ≡ job.setup.plan) (d_is : d ≡ record c { path = d.path })
     (r : Received (IsMadeBy steps) IsDrawn rules frame c.path d.path (group_of run) after) where
-  judged_is : IsJudged (lens_of job) rules.room frame r.entry r.offer
-  judged_is = r.admitted.judged (lens_of job)
-      (subst (λ (n : ℕ). AgreesAt n (lens_of job) (lens_in rules)) (sym place) are.agrees)
+  judged_is : IsJudged (judge_rules_of job) rules.room frame r.entry r.offer
+  judged_is = r.admitted.judged (judge_rules_of job)
+      (subst (λ (n : ℕ). AgreesAt n (judge_rules_of job) (judge_rules_in rules)) (sym place) are.agrees)
 
   drawn_is : Draws job.setup.plan.mode r.entry.ticket (group_of run) r.mid
   drawn_is = draws job.setup.plan.mode r.entry.ticket (group_of run) r.mid
       (subst (λ (s : Shape). HasTicket s.mode r.entry.ticket) shape r.admitted.ticket) r.admitted.drawn
 
-  entry_is : r.entry ≡ first_entry (lens_of job) frame (ticket_of job.setup.plan.mode run.ticket)
-  entry_is = judged_is.entry_is ∙ ap (λ (t : Option ℕ). first_entry (lens_of job) frame t) drawn_is.ticket_is
+  entry_is : r.entry ≡ first_entry (judge_rules_of job) frame (ticket_of job.setup.plan.mode run.ticket)
+  entry_is = judged_is.entry_is ∙ ap (λ (t : Option ℕ). first_entry (judge_rules_of job) frame t) drawn_is.ticket_is
 
   abbrev Tries : Shape → ℕ → Option ℕ → Option Offer → GroupValue → Type 0
   Tries plan queue ticket offer before =
@@ -80,25 +80,25 @@ module _ (steps : RingSteps) (job : Job) (cpu : ℕ) (rules : ArrivalRules) (fra
       × (after.ticket ≡ r.mid.ticket)
   told = tried_as steps c.path.shape r.entry.ticket rules.queue c.path.present r.offer r.tries r.mid after r.tried
 
-  tried_is : Tries job.setup.plan ((lens_of job).queue frame.cpu) (ticket_of job.setup.plan.mode run.ticket)
-      (offer_by (lens_of job) steps.size.room frame) (group_of run)
+  tried_is : Tries job.setup.plan ((judge_rules_of job).queue frame.cpu) (ticket_of job.setup.plan.mode run.ticket)
+      (offer_by (judge_rules_of job) steps.size.room frame) (group_of run)
   tried_is =
       let plan = job.setup.plan in
-      let lens = lens_of job in
+      let judge = judge_rules_of job in
       let by_plan = subst (λ (s : Shape). Tries s rules.queue r.entry.ticket r.offer r.mid) shape told.0 in
       let by_queue = subst (λ (queue : ℕ). Tries plan queue r.entry.ticket r.offer r.mid)
-      (are.queue_is ∙ ap (λ (n : ℕ). lens.queue n) (sym place)) by_plan in
-      let by_ticket = subst (λ (ticket : Option ℕ). Tries plan (lens.queue frame.cpu) ticket r.offer r.mid)
+      (are.queue_is ∙ ap (λ (n : ℕ). judge.queue n) (sym place)) by_plan in
+      let by_ticket = subst (λ (ticket : Option ℕ). Tries plan (judge.queue frame.cpu) ticket r.offer r.mid)
       drawn_is.ticket_is by_queue in
-      let by_offer = subst (λ (o : Option Offer). Tries plan (lens.queue frame.cpu) (ticket_of plan.mode run.ticket) o r.mid)
-      (judged_is.offer_is ∙ ap (λ (room : ℕ). offer_by lens room frame) are.room_is) by_ticket in
-      subst (λ (group : GroupValue). Tries plan (lens.queue frame.cpu) (ticket_of plan.mode run.ticket)
-      (offer_by lens steps.size.room frame) group) drawn_is.new_is by_offer
+      let by_offer = subst (λ (o : Option Offer). Tries plan (judge.queue frame.cpu) (ticket_of plan.mode run.ticket) o r.mid)
+      (judged_is.offer_is ∙ ap (λ (room : ℕ). offer_by judge room frame) are.room_is) by_ticket in
+      subst (λ (group : GroupValue). Tries plan (judge.queue frame.cpu) (ticket_of plan.mode run.ticket)
+      (offer_by judge steps.size.room frame) group) drawn_is.new_is by_offer
 
-  pub looked : Looked job.setup.plan (lens_of job) steps cpu frame c (with_cpu cpu c run)
+  pub looked : Looked job.setup.plan (judge_rules_of job) steps cpu frame c (with_cpu cpu c run)
       (run_with (slice_set run.cpus cpu d) after)
   looked =
-      let entry = first_entry (lens_of job) frame (ticket_of job.setup.plan.mode run.ticket) in
+      let entry = first_entry (judge_rules_of job) frame (ticket_of job.setup.plan.mode run.ticket) in
       let logs : Feeding = record c { path = logged (record entry { tries = r.tries }) c.path } in
       let is : d ≡ logs = d_is ∙ ap (λ (p : Path). record c { path = p })
       (r.new_is ∙ ap (λ (e : ArrivalLog). logged (record e { tries = r.tries }) c.path) entry_is) in
@@ -113,24 +113,24 @@ module _ (steps : RingSteps) (job : Job) (cpu : ℕ) (rules : ArrivalRules) (fra
 
 module _ (steps : RingSteps) (job : Job) (cpu : ℕ) (frame : Frame) (c : Feeding) (old new : RunValue)
     (run : IsRun steps job old) (few : job.setup.plan.members ≤ 8) (within : cpu < length old.cpus)
-    (l : Looked job.setup.plan (lens_of job) steps cpu frame c old new) where
+    (l : Looked job.setup.plan (judge_rules_of job) steps cpu frame c old new) where
   abbrev plan : Shape
   plan = job.setup.plan
 
-  abbrev lens : Lens
-  lens = lens_of job
+  abbrev judge : JudgeRules
+  judge = judge_rules_of job
 
   abbrev drawn : Option ℕ
   drawn = ticket_of plan.mode old.ticket
 
   stays_run : IsRun steps job new
   stays_run = record {
-    count = as_count steps plan c.path.present (lens.queue frame.cpu) drawn l.tries old.members new.members
-        (offer_by lens steps.size.room frame) l.tried ∙ run.count;
-    sizes = as_keep steps plan c.path.present (lens.queue frame.cpu) drawn l.tries old.members new.members
-        (λ (ring : Ring). ring.size ≡ steps.size) (offer_by lens steps.size.room frame) (λ ring note e. e) l.tried
+    count = as_count steps plan c.path.present (judge.queue frame.cpu) drawn l.tries old.members new.members
+        (offer_by judge steps.size.room frame) l.tried ∙ run.count;
+    sizes = as_keep steps plan c.path.present (judge.queue frame.cpu) drawn l.tries old.members new.members
+        (λ (ring : Ring). ring.size ≡ steps.size) (offer_by judge steps.size.room frame) (λ ring note e. e) l.tried
         run.sizes;
-    cpus = subst (λ (cs : List Feeding). AreCpus plan 0 cs) (sym (cpus_are plan lens steps cpu frame c old new l within))
+    cpus = subst (λ (cs : List Feeding). AreCpus plan 0 cs) (sym (cpus_are plan judge steps cpu frame c old new l within))
         (cpus-keep plan 0 old.cpus cpu _ run.cpus (sym (ap (λ (x : Feeding). x.number) l.here))
         (sym (ap (λ (x : Feeding). x.path.shape) l.here)));
   }
@@ -138,15 +138,15 @@ module _ (steps : RingSteps) (job : Job) (cpu : ℕ) (frame : Frame) (c : Feedin
   pub arrives_as : Arrives steps job cpu frame c old new
   arrives_as = record {
     here = l.here;
-    does = λ all h. arrives plan lens steps cpu frame c old new l within all h;
+    does = λ all h. arrives plan judge steps cpu frame c old new l within all h;
     run = stays_run;
     path = _;
-    cpus_are = cpus_are plan lens steps cpu frame c old new l within;
-    changed = as_changed steps plan c.path.present (lens.queue frame.cpu) drawn l.tries old.members new.members
-        (offer_by lens steps.size.room frame) l.tried;
+    cpus_are = cpus_are plan judge steps cpu frame c old new l within;
+    changed = as_changed steps plan c.path.present (judge.queue frame.cpu) drawn l.tries old.members new.members
+        (offer_by judge steps.size.room frame) l.tried;
     ticket = subst (λ (ticket : ℕ). ticket ≤ old.ticket + 1) (sym l.ticket_is) (drawn_most plan.mode old.ticket);
-    notes = λ most all. made_most steps plan c.path.present (lens.queue frame.cpu) drawn
-        (offer_by lens steps.size.room frame) l.tries old.members new.members most few l.tried all;
+    notes = λ most all. made_most steps plan c.path.present (judge.queue frame.cpu) drawn
+        (offer_by judge steps.size.room frame) l.tries old.members new.members most few l.tried all;
   }
 
 -- ---- a frame is fed

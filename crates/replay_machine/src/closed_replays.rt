@@ -6,7 +6,7 @@ ghost use Rattle.replay_machine.specs.Reported.{reported_by};
 ghost use Rattle.replay_machine.specs.inside.RunEffects.{Finishes};
 
 use crate::Setting;
-use crate::member::Member;
+use crate::member::RingMember;
 use crate::replay_run::ReplayRun;
 use cpu_feed::close_cpus;
 use frame_view::Memory;
@@ -18,7 +18,7 @@ use tap_outside::Source;
 /// Closes each member's ring.
 pub(crate) fn close_members<R: ReceiveRing, K: Setting>(
     alloc: Global,
-    members: Vec<Member<R, K>>,
+    members: Vec<RingMember<R, K>>,
 ) -> Result<MemberList, Memory>
     ensures { IfOk result (λ reports. reports
         ≡ map (reported_by R.Unit.text_of R.reads K.shape K.dumps)

@@ -26,7 +26,7 @@ use tp_layout::Shape;
 /// A receive ring with its reader. Contracts see the ring: its size, its notes, and how many blocks
 /// its reader has released.
 #[derive(Drop)]
-pub(crate) struct Member<R: ReceiveRing, K: Setting> {
+pub(crate) struct RingMember<R: ReceiveRing, K: Setting> {
     /// The ring that frames go into.
     ring: R,
     /// Its reader.
@@ -37,7 +37,7 @@ pub(crate) struct Member<R: ReceiveRing, K: Setting> {
     of: PhantomData<K>,
 }
 
-impl<R: ReceiveRing, K: Setting> Model for Member<R, K> {
+impl<R: ReceiveRing, K: Setting> Model for RingMember<R, K> {
     ghost use Rattle.ring_model.specs.Rings.{Ring};
 
     ghost Value = { Ring };
@@ -55,15 +55,15 @@ impl<R: ReceiveRing, K: Setting> Model for Member<R, K> {
         }) };
 }
 
-impl<R: ReceiveRing, K: Setting> Member<R, K> {
+impl<R: ReceiveRing, K: Setting> RingMember<R, K> {
     /// A member with a new ring.
-    pub(crate) fn new(alloc: Global, shape: &Shape, dump: bool) -> Result<Member<R, K>, Memory>
+    pub(crate) fn new(alloc: Global, shape: &Shape, dump: bool) -> Result<RingMember<R, K>, Memory>
         requires shape { shape.now ≡ K.shape }
         requires dump { dump ≡ K.dumps }
         requires may { R.may shape.now }
         ensures { IfOk result (λ member. member ≡ fresh (R.steps K.shape).size) }
     {
-        Ok(Member {
+        Ok(RingMember {
             ring: R::open(alloc, shape)?,
             reader: RingReader::new(alloc, *shape, dump),
             stuck: false,

@@ -4,7 +4,7 @@ ghost use Rattle.ring_model.specs.Rings.{fresh};
 ghost use Rattle.replay_machine.specs.inside.RunEffects.{Starts, starting_from};
 
 use crate::Setting;
-use crate::member::Member;
+use crate::member::RingMember;
 use crate::replay_run::ReplayRun;
 use crate::ring_group::RingGroup;
 use capture_reading::Buffer;
@@ -44,7 +44,7 @@ pub(crate) fn start<S: Source, R: ReceiveRing, K: Setting>(
 fn members_of<R: ReceiveRing, K: Setting>(
     alloc: Global,
     job: &Job,
-) -> Result<Vec<Member<R, K>>, Memory>
+) -> Result<Vec<RingMember<R, K>>, Memory>
     requires shape { job.now.setup.shape ≡ K.shape }
     requires dump { job.now.setup.dump ≡ K.dumps }
     requires may { R.may job.now.setup.shape }
@@ -54,7 +54,7 @@ fn members_of<R: ReceiveRing, K: Setting>(
     let members = job.setup.plan.members();
     let mut all = Vec::with_capacity(alloc, members as usize)?;
     for _member in 0..members {
-        all.push(Member::new(alloc, &job.setup.shape, job.setup.dump)?)?;
+        all.push(RingMember::new(alloc, &job.setup.shape, job.setup.dump)?)?;
     }
     Ok(all)
 }

@@ -9,7 +9,7 @@ ghost use Rattle.ring_model.specs.Unreleased.{last_moment};
 ghost use Rattle.ring_model.specs.declared.notes.Note.TheVariants.{Counted};
 
 use crate::Setting;
-use crate::member::Member;
+use crate::member::RingMember;
 use fanout_group::{Desk, Group};
 use frame_view::Memory;
 use receive_ring::ReceiveRing;
@@ -21,7 +21,7 @@ use std::marker::Model;
 #[derive(Drop)]
 pub(crate) struct RingGroup<R: ReceiveRing, K: Setting> {
     /// The members, from 0 up.
-    pub(crate) members: Vec<Member<R, K>>,
+    pub(crate) members: Vec<RingMember<R, K>>,
     /// The number of the next arrival in mode `Lb`.
     pub(crate) ticket: u64,
 }

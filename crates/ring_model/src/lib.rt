@@ -17,5 +17,5 @@ pub use laws::{
 };
 pub use notes::{Found, Note, Notes, Offer, Put, Stats, Tried, Unput};
 pub use packet_notes::{noted_drop, noted_put, noted_try};
-pub use sizes::{due, need};
+pub use sizes::{PACKET_HEADER, due, need};
 pub use tally::{StatsList, Tally, tally_notes};

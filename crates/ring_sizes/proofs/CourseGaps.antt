@@ -12,8 +12,8 @@ use Rattle.ring_sizes.specs.declared.courses.Course.{Course}
 use Rattle.ring_sizes.specs.declared.events.Event.{Event}
 use Rattle.ring_sizes.specs.declared.events.Event.TheVariants.{Packet, Tick, Read, ReadAll}
 use Rattle.ring_sizes.specs.declared.paces.Arrival.{Arrival}
-use Rattle.ring_sizes.specs.declared.paces.Pace.{Pace}
-use Rattle.ring_sizes.specs.declared.paces.Stall.{Stall}
+use Rattle.ring_sizes.specs.declared.paces.Timing.{Timing}
+use Rattle.ring_sizes.specs.declared.paces.StallTime.{StallTime}
 use Rattle.ring_sizes.proofs.ReaderSteps.{all_again, more_read, none_read, not_none}
 use Rattle.ring_sizes.proofs.Still.{released_few}
 
@@ -58,7 +58,7 @@ module _ (room blocks tov : ℕ) where
   reads_go true steps course = reads_all steps course
   reads_go false steps course = reads_one steps course
 
-module _ (room blocks : ℕ) (stalls : List Stall) (pace : Pace) where
+module _ (room blocks : ℕ) (stalls : List StallTime) (pace : Timing) where
   abbrev go : List Event → Course → Course
   go events course = all_went_on room blocks pace.tov events course
 

@@ -10,8 +10,8 @@ use Rattle.ring_sizes.specs.Schedules.{IsPace, beats_between, schedule_from, ste
 use Rattle.ring_sizes.specs.Schedules.{ticks_by}
 use Rattle.ring_sizes.specs.declared.events.Event.TheVariants.{Packet}
 use Rattle.ring_sizes.specs.declared.paces.Arrival.{Arrival}
-use Rattle.ring_sizes.specs.declared.paces.Pace.{Pace}
-use Rattle.ring_sizes.specs.declared.paces.Stall.{Stall}
+use Rattle.ring_sizes.specs.declared.paces.Timing.{Timing}
+use Rattle.ring_sizes.specs.declared.paces.StallTime.{StallTime}
 use Rattle.ring_sizes.specs.declared.sizes.Pass.{Pass}
 use Rattle.ring_sizes.proofs.Counts.{ticks_rise}
 use Rattle.ring_sizes.proofs.Gaps.{gap}
@@ -20,18 +20,18 @@ use Rattle.ring_sizes.proofs.ReaderSteps.{passed_append}
 pub max_below : (one other bound : ℕ) → one < bound → other < bound → max one other < bound
 max_below one other bound h k = grind (arith, common_steps)
 
-packet_by : (room need : ℕ) (pace : Pace) (ticks : ℕ) (pass : Pass) (fits : Bool) → IsTicked pace ticks pass
+packet_by : (room need : ℕ) (pace : Timing) (ticks : ℕ) (pass : Pass) (fits : Bool) → IsTicked pace ticks pass
     → IsTicked pace ticks (cond fits (record pass { used = pass.used + need; empty = false })
     (record (with_next pass) { used = need; empty = false; deadline = pass.clock + pace.tov }))
 packet_by room need pace ticks pass true h = record { clock = h.clock; deadline = h.deadline }
 packet_by room need pace ticks pass false h = record { clock = h.clock; deadline = omega (arith, h.clock) }
 
-pub packet_ticked : (room need : ℕ) (pace : Pace) (ticks : ℕ) (pass : Pass) → IsTicked pace ticks pass
+pub packet_ticked : (room need : ℕ) (pace : Timing) (ticks : ℕ) (pass : Pass) → IsTicked pace ticks pass
     → IsTicked pace ticks (offered room pace.tov need pass)
 packet_ticked room need pace ticks pass h = packet_by room need pace ticks pass (nat_le (pass.used + need) room) h
 
 -- the next frame
-pub arrival_goes : (room : ℕ) (stalls : List Stall) (pace : Pace) (end since at : ℕ) (arrivals : List Arrival) (index : ℕ)
+pub arrival_goes : (room : ℕ) (stalls : List StallTime) (pace : Timing) (end since at : ℕ) (arrivals : List Arrival) (index : ℕ)
     (default : Arrival) (pass before later total : Pass)
     → IsPace pace → IsTicked pace (ticks_by pace since) pass → index < length arrivals
     → at ≡ max since (get_or arrivals index default).at
@@ -55,7 +55,8 @@ arrival_goes room stalls pace end since at arrivals index default pass before la
     ∙ whole
 
 -- what comes after the last frame
-pub end_goes : (room : ℕ) (stalls : List Stall) (pace : Pace) (end since last steps : ℕ) (arrivals : List Arrival) (index : ℕ)
+pub end_goes : (room : ℕ) (stalls : List StallTime) (pace : Timing) (end since last steps : ℕ) (arrivals : List Arrival)
+    (index : ℕ)
     (pass later total : Pass)
     → IsPace pace → IsTicked pace (ticks_by pace since) pass → length arrivals ≤ index
     → last ≡ ticks_by pace end → steps ≡ steps_before pace (end + 1)

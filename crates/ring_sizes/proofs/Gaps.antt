@@ -10,8 +10,8 @@ use Rattle.ring_sizes.specs.Schedules.{IsPace, awake, beats, steps_before}
 use Rattle.ring_sizes.specs.Schedules.{steps_from, tick_moment, ticks_by}
 use Rattle.ring_sizes.specs.declared.events.Event.{Event}
 use Rattle.ring_sizes.specs.declared.events.Event.TheVariants.{Tick}
-use Rattle.ring_sizes.specs.declared.paces.Pace.{Pace}
-use Rattle.ring_sizes.specs.declared.paces.Stall.{Stall}
+use Rattle.ring_sizes.specs.declared.paces.Timing.{Timing}
+use Rattle.ring_sizes.specs.declared.paces.StallTime.{StallTime}
 use Rattle.ring_sizes.specs.declared.sizes.Pass.{Pass}
 use Rattle.ring_sizes.proofs.Counts.{moments_rise, next_tick, steps_rise, tick_comes}
 use Rattle.ring_sizes.proofs.ReaderSteps.{awake_join, passed_append, reads, reads_join}
@@ -45,7 +45,7 @@ some_later : (next last : ℕ) (more : Bool) → nat_lt next last ≡ more → n
 some_later next last true e h = sym e
 some_later next last false e h = absurd (grind (arith, common_steps))
 
-module _ (room : ℕ) (stalls : List Stall) (pace : Pace) (sound : IsPace pace) where
+module _ (room : ℕ) (stalls : List StallTime) (pace : Timing) (sound : IsPace pace) where
   abbrev run : List Event → Pass → Pass
   run events pass = passed_all room pace.tov events pass
 

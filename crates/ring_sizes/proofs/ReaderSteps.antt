@@ -9,8 +9,8 @@ use Rattle.ring_sizes.specs.Rests.{read_on}
 use Rattle.ring_sizes.specs.Schedules.{awake, step_event}
 use Rattle.ring_sizes.specs.declared.events.Event.{Event}
 use Rattle.ring_sizes.specs.declared.events.Event.TheVariants.{Read, ReadAll}
-use Rattle.ring_sizes.specs.declared.paces.Pace.{Pace}
-use Rattle.ring_sizes.specs.declared.paces.Stall.{Stall}
+use Rattle.ring_sizes.specs.declared.paces.Timing.{Timing}
+use Rattle.ring_sizes.specs.declared.paces.StallTime.{StallTime}
 use Rattle.ring_sizes.specs.declared.sizes.Pass.{Pass}
 
 pub passed_append : (room tov : ℕ) (events more : List Event) (pass : Pass)
@@ -76,7 +76,7 @@ reads_join takes_all steps more pass =
     ∙ ap (λ (events : List Event). passed_all 0 0 events pass) (replicate-append-replicate steps more (step_event takes_all))
     ∙ reads 0 0 takes_all (steps + more) pass
 
-pub awake_join : (stalls : List Stall) (pace : Pace) (done steps more : ℕ)
+pub awake_join : (stalls : List StallTime) (pace : Timing) (done steps more : ℕ)
     → awake stalls pace done steps + awake stalls pace (done + steps) more ≡ awake stalls pace done (steps + more)
 awake_join stalls pace done zero more =
     let a : done + 0 ≡ done = omega arith in

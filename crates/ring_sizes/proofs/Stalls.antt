@@ -4,12 +4,13 @@ use Rattle.std.proofs.Common.{length, refl, sym, ap, ◌∙◌, arith}
 use Rattle.std.specs.Prelude.{nat_le, nat_lt, ◌&&◌}
 use Rattle.std.proofs.lemmas.Grind.{common_steps}
 use Rattle.ring_sizes.specs.Schedules.{IsPace, awake, is_stalled, step_moment, steps_before}
-use Rattle.ring_sizes.specs.declared.paces.Pace.{Pace}
-use Rattle.ring_sizes.specs.declared.paces.Stall.{Stall}
+use Rattle.ring_sizes.specs.declared.paces.Timing.{Timing}
+use Rattle.ring_sizes.specs.declared.paces.StallTime.{StallTime}
 use Rattle.ring_sizes.proofs.Counts.{step_comes, step_rises}
 use Rattle.ring_sizes.proofs.ReaderSteps.{awake_join}
 
-pub all_awake : (stalls : List Stall) (pace : Pace) (done steps : ℕ) → length stalls ≡ 0 → awake stalls pace done steps ≡ steps
+pub all_awake : (stalls : List StallTime) (pace : Timing) (done steps : ℕ) → length stalls ≡ 0
+    → awake stalls pace done steps ≡ steps
 all_awake [] pace done zero none = refl
 all_awake [] pace done (suc steps) none =
     let rest = all_awake [] pace (done + 1) steps none in omega (arith, rest)
@@ -27,7 +28,7 @@ none_more : (stalled : Bool) → 0 ≡ alike stalled 0
 none_more true = refl
 none_more false = refl
 
-awake_alike : (stalls : List Stall) (pace : Pace) (done steps : ℕ) (stalled : Bool)
+awake_alike : (stalls : List StallTime) (pace : Timing) (done steps : ℕ) (stalled : Bool)
     → ((number : ℕ) → done < number → number ≤ done + steps → is_stalled stalls (step_moment pace number) ≡ stalled)
     → awake stalls pace done steps ≡ alike stalled steps
 awake_alike stalls pace done zero stalled same = none_more stalled
@@ -38,7 +39,7 @@ awake_alike stalls pace done (suc steps) stalled same =
     omega (arith, rest, here, one_more stalled steps)
 
 -- the steps up to a change
-pub awake_next : (stalls : List Stall) (pace : Pace) (done change next to before later total : ℕ) (stalled : Bool)
+pub awake_next : (stalls : List StallTime) (pace : Timing) (done change next to before later total : ℕ) (stalled : Bool)
     → IsPace pace → done < to → stalled ≡ is_stalled stalls (step_moment pace (done + 1))
     → ((at : ℕ) → step_moment pace (done + 1) ≤ at → at < change
     → is_stalled stalls at ≡ is_stalled stalls (step_moment pace (done + 1)))
@@ -59,13 +60,13 @@ awake_next stalls pace done change next to before later total stalled sound more
     omega (arith, all, join, from, whole, counts, goes)
 
 -- the next change comes after the next step
-pub step_before_change : (pace : Pace) (done change to : ℕ) → IsPace pace → done < to → step_moment pace (done + 1) < change
+pub step_before_change : (pace : Timing) (done change to : ℕ) → IsPace pace → done < to → step_moment pace (done + 1) < change
     → done < steps_before pace change
 step_before_change pace done change to sound more later =
     let few = (step_comes pace change (done + 1) sound (omega arith)).1 later in omega (arith, few)
 
 -- a stall that neither begins nor ends from one moment on, up to another
-pub same_stall : (stall : Stall) (moment at : ℕ) → moment ≤ at
+pub same_stall : (stall : StallTime) (moment at : ℕ) → moment ≤ at
     → (at < stall.from) ⊎ ((stall.from ≤ moment) × (at < stall.from + stall.length)) ⊎ (stall.from + stall.length ≤ moment)
     → (nat_le stall.from at && nat_lt at (stall.from + stall.length))
     ≡ (nat_le stall.from moment && nat_lt moment (stall.from + stall.length))

@@ -12,8 +12,8 @@ use Rattle.ring_sizes.specs.Phases.{AreTried, IsBeginning, IsEarlier, IsFirst, I
 use Rattle.ring_sizes.specs.Phases.{least_of, or_fewer, or_more}
 use Rattle.ring_sizes.specs.Schedules.{IsPace, schedule_to}
 use Rattle.ring_sizes.specs.declared.paces.Arrival.{Arrival}
-use Rattle.ring_sizes.specs.declared.paces.Pace.{Pace}
-use Rattle.ring_sizes.specs.declared.paces.Stall.{Stall}
+use Rattle.ring_sizes.specs.declared.paces.Timing.{Timing}
+use Rattle.ring_sizes.specs.declared.paces.StallTime.{StallTime}
 use Rattle.ring_sizes.specs.declared.tries.Reached.{Reached}
 use Rattle.ring_sizes.specs.declared.tries.Tries.{Tries}
 use Rattle.ring_sizes.proofs.Never.{all_grow, threshold_at}
@@ -238,7 +238,8 @@ module _ (number_at : ℕ → ℕ → ℕ) (tries : Tries) (tried : ℕ) where
 
 -- ---- what is tried is a pace
 
-pub tried_pace : (pace : Pace) (tries : Tries) (phase from : ℕ) → AreTried pace tries → phase < tries.phase_end → from < 2 ^ 32
+pub tried_pace : (pace : Timing) (tries : Tries) (phase from : ℕ) → AreTried pace tries → phase < tries.phase_end
+    → from < 2 ^ 32
     → IsPace (begun pace phase from)
 tried_pace pace tries phase from h few late = record {
   tov = omega (arith, few, h.below);
@@ -251,7 +252,7 @@ tried_pace pace tries phase from h few late = record {
   late = omega (arith, late);
 }
 
-pub one_phase : (pace : Pace) (tries : Tries) (phase : ℕ) → AreTried pace tries → phase < tries.phase_end
+pub one_phase : (pace : Timing) (tries : Tries) (phase : ℕ) → AreTried pace tries → phase < tries.phase_end
     → AreTried pace (record tries { first_phase = phase })
 one_phase pace tries phase h few = record {
   tov = h.tov;
@@ -266,12 +267,12 @@ one_phase pace tries phase h few = record {
 
 -- ---- what the pass reports
 
-pub least_some : (room : ℕ) (stalls : List Stall) (pace : Pace) (arrivals : List Arrival) (end : ℕ)
+pub least_some : (room : ℕ) (stalls : List StallTime) (pace : Timing) (arrivals : List Arrival) (end : ℕ)
     → 1 ≤ least_of room stalls pace arrivals end
 least_some room stalls pace arrivals end =
     all_grow room pace.tov (schedule_to stalls pace arrivals end) (first_pass pace.tov)
 
-pub never_at : (room blocks : ℕ) (stalls : List Stall) (pace : Pace) (arrivals : List Arrival) (end : ℕ)
+pub never_at : (room blocks : ℕ) (stalls : List StallTime) (pace : Timing) (arrivals : List Arrival) (end : ℕ)
     (happenings : List Happening)
     → events_of happenings ≡ schedule_to stalls pace arrivals end → 1 ≤ blocks
     → NeverFreezes (record { room = room; blocks = blocks; tov = pace.tov }) happenings

@@ -5,23 +5,23 @@ use Rattle.ring_sizes.specs.Courses.{all_went_on, first_course}
 use Rattle.ring_sizes.specs.Passes.{first_pass, passed_all}
 use Rattle.ring_sizes.specs.Schedules.{schedule_to}
 use Rattle.ring_sizes.specs.declared.paces.Arrival.{Arrival}
-use Rattle.ring_sizes.specs.declared.paces.Pace.{Pace}
-use Rattle.ring_sizes.specs.declared.paces.Stall.{Stall}
+use Rattle.ring_sizes.specs.declared.paces.Timing.{Timing}
+use Rattle.ring_sizes.specs.declared.paces.StallTime.{StallTime}
 use Rattle.ring_sizes.specs.declared.tries.Reached.{Reached}
 use Rattle.ring_sizes.specs.declared.tries.Tries.{Tries}
 
 -- a timer that was started so many milliseconds before the first frame, and a reader that begins so
 -- many milliseconds after it
-abbrev pub begun : Pace → ℕ → ℕ → Pace
+abbrev pub begun : Timing → ℕ → ℕ → Timing
 begun pace phase from = record pace { phase = phase; start = from * 1000000 }
 
 -- the number of blocks that a pass over the schedule reports
-abbrev pub least_of : ℕ → List Stall → Pace → List Arrival → ℕ → ℕ
+abbrev pub least_of : ℕ → List StallTime → Timing → List Arrival → ℕ → ℕ
 least_of room stalls pace arrivals end =
     (passed_all room pace.tov (schedule_to stalls pace arrivals end) (first_pass pace.tov)).least
 
 -- the packets that a course over the schedule drops
-abbrev pub drops_of : ℕ → ℕ → List Stall → Pace → List Arrival → ℕ → ℕ
+abbrev pub drops_of : ℕ → ℕ → List StallTime → Timing → List Arrival → ℕ → ℕ
 drops_of room blocks stalls pace arrivals end =
     (all_went_on room blocks pace.tov (schedule_to stalls pace arrivals end)
     (first_course pace.tov)).dropped
@@ -36,7 +36,7 @@ IsBeginning tries from = (tries.first_from ≤ from) × (from < tries.from_end)
 
 -- a valid timer and reader, of which some phases are tried, each below the time-out, and some
 -- beginnings
-pub record AreTried (pace : Pace) (tries : Tries) : Type 0 where
+pub record AreTried (pace : Timing) (tries : Tries) : Type 0 where
   pub tov : pace.tov < 2 ^ 32
   pub span : 0 < pace.span
   pub brief : pace.span < 2 ^ 60

@@ -1,10 +1,10 @@
 -- How far a timer and a reader have come at a frame's moment.
 use Rattle.std.specs.Prelude.{ℕ, ◌+◌}
 use Rattle.ring_sizes.specs.Schedules.{step_moment, steps_before, tick_moment, ticks_by}
-use Rattle.ring_sizes.specs.declared.paces.Pace.{Pace}
-use Rattle.ring_sizes.specs.declared.timed.Place.{Place}
+use Rattle.ring_sizes.specs.declared.paces.Timing.{Timing}
+use Rattle.ring_sizes.specs.declared.timed.TimedPlace.{TimedPlace}
 
-abbrev pub place_at : Pace → ℕ → Place
+abbrev pub place_at : Timing → ℕ → TimedPlace
 place_at pace at = record {
   ticks = ticks_by pace at;
   tick_at = tick_moment pace (ticks_by pace at + 1);

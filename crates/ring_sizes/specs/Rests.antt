@@ -6,8 +6,8 @@ use Rattle.ring_sizes.specs.Courses.{is_empty, over_time}
 use Rattle.ring_sizes.specs.Passes.{ticked}
 use Rattle.ring_sizes.specs.Schedules.{awake, steps_before, tick_moment}
 use Rattle.ring_sizes.specs.declared.courses.Course.{Course}
-use Rattle.ring_sizes.specs.declared.paces.Pace.{Pace}
-use Rattle.ring_sizes.specs.declared.paces.Stall.{Stall}
+use Rattle.ring_sizes.specs.declared.paces.Timing.{Timing}
+use Rattle.ring_sizes.specs.declared.paces.StallTime.{StallTime}
 use Rattle.ring_sizes.specs.declared.sizes.Pass.{Pass}
 
 -- how many of the retired blocks are released after so many steps of the reader
@@ -36,25 +36,25 @@ abbrev pub is_still : ℕ → Course → Bool
 is_still ms course = is_empty course.block && nat_le course.deadline ms
 
 -- after the steps from one number on, up to another
-abbrev pub read_to : List Stall → Pace → ℕ → ℕ → Pass → Pass
+abbrev pub read_to : List StallTime → Timing → ℕ → ℕ → Pass → Pass
 read_to stalls pace from to pass =
     read_on pace.takes_all (awake stalls pace from (to - from)) pass
 
 -- after the next tick, which finds an open block's time over, and the steps before it; so many
 -- ticks and steps came before
-abbrev pub after_next : List Stall → Pace → ℕ → ℕ → Pass → Pass
+abbrev pub after_next : List StallTime → Timing → ℕ → ℕ → Pass → Pass
 after_next stalls pace ticks from pass =
     ticked pace.tov ((ticks + 1) * pace.tov)
     (read_to stalls pace from (steps_before pace (tick_moment pace (ticks + 1))) pass)
 
 -- the same where the last tick is a later one: with an empty block the last one alone matters
-abbrev pub after_last : Pace → ℕ → ℕ → Pass → Pass
+abbrev pub after_last : Timing → ℕ → ℕ → Pass → Pass
 after_last pace next last pass =
     if nat_lt next last then ticked pace.tov (last * pace.tov) pass else pass
 
 -- after the ticks from one number on, up to another, and the steps from one number on, up to
 -- another
-abbrev pub rested : List Stall → Pace → ℕ → ℕ → ℕ → ℕ → Pass → Pass
+abbrev pub rested : List StallTime → Timing → ℕ → ℕ → ℕ → ℕ → Pass → Pass
 rested stalls pace ticks last from to pass =
     if pass.empty || nat_le last ticks
     then read_to stalls pace from to (after_last pace ticks last pass)
@@ -62,6 +62,6 @@ rested stalls pace ticks last from to pass =
     (after_last pace (ticks + 1) last (after_next stalls pace ticks from pass))
 
 -- the clock of a pass is that of a timer that has ticked so often, and its block is due at the next
-pub record IsTicked (pace : Pace) (ticks : ℕ) (pass : Pass) : Type 0 where
+pub record IsTicked (pace : Timing) (ticks : ℕ) (pass : Pass) : Type 0 where
   pub clock : pass.clock ≡ ticks * pace.tov
   pub deadline : pass.deadline ≤ ticks * pace.tov + pace.tov

@@ -12,7 +12,7 @@ ghost use Rattle.ring_sizes.specs.Passes.{first_pass, passed_all};
 ghost use Rattle.ring_sizes.specs.Reads.{read_times};
 ghost use Rattle.ring_sizes.specs.Schedules.{IsPace, step_moment, steps_before};
 ghost use Rattle.ring_sizes.specs.Schedules.{tick_moment, ticks_by};
-ghost use Rattle.ring_sizes.specs.declared.paces.Pace.{Pace};
+ghost use Rattle.ring_sizes.specs.declared.paces.Timing.{Timing};
 
 /// A reader that reads as often as the ring has blocks, or more often, has read all of them.
 pub fn as_many_reads_as_blocks_read_all()
@@ -47,12 +47,12 @@ pub fn a_course_counts_what_the_ring_counts()
 
 /// As many ticks of a timer come by a moment as have their moment by then.
 pub fn a_tick_is_counted_from_its_moment_on()
-    ensures { (pace : Pace) (at number : ℕ) → 0 < pace.tov
+    ensures { (pace : Timing) (at number : ℕ) → 0 < pace.tov
         → (number ≤ ticks_by pace at) ↔ (tick_moment pace number ≤ at) }
 {}
 
 /// As many steps of a reader come before a moment as have their moment before it.
 pub fn a_step_is_counted_after_its_moment()
-    ensures { (pace : Pace) (at number : ℕ) → IsPace pace → 1 ≤ number
+    ensures { (pace : Timing) (at number : ℕ) → IsPace pace → 1 ≤ number
         → (number ≤ steps_before pace at) ↔ (step_moment pace number < at) }
 {}

@@ -20,7 +20,7 @@ pub use laws::{
     a_ring_never_freezes_where_it_counts_no_freeze, a_step_is_counted_after_its_moment,
     a_tick_is_counted_from_its_moment_on, as_many_reads_as_blocks_read_all,
 };
-pub use paces::{Arrival, Pace, Stall};
+pub use paces::{Arrival, StallTime, Timing};
 pub use phase_losses::{DropRange, losses_of_all};
 pub use phases::least_of_all;
 pub use sizes::{Pass, least};

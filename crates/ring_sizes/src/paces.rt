@@ -21,14 +21,14 @@ pub struct Arrival {
 
 /// The reader makes no step from this moment on, for so long.
 #[derive(Clone, Copy, Debug)]
-pub struct Stall {
+pub struct StallTime {
     pub from: u64,
     pub length: u64,
 }
 
 /// When a timer ticks and a reader makes its steps.
 #[derive(Clone, Copy, Debug)]
-pub struct Pace {
+pub struct Timing {
     /// The time-out, in milliseconds: the timer ticks so often.
     pub tov: u32,
     /// How long before the first frame the timer was started, in milliseconds.
@@ -42,13 +42,13 @@ pub struct Pace {
     pub takes_all: bool,
 }
 
-impl Pace {
+impl Timing {
     /// The same timer and reader, of which the timer was started so many milliseconds before the
     /// first frame, and the reader begins so many milliseconds after it.
-    pub fn begun(&self, phase: u32, from: u32) -> Pace
+    pub fn begun(&self, phase: u32, from: u32) -> Timing
         ensures { result ≡ begun self.now phase from }
     {
-        Pace {
+        Timing {
             phase,
             start: u64::from(from) * MILLISECOND,
             ..*self
@@ -103,7 +103,7 @@ impl Pace {
 
     /// How many of the reader's steps from one number on, up to another, aren't in a stall. It
     /// takes no longer than the stalls that begin and end between them.
-    pub fn awake(&self, from: u64, to: u64, stalls: &[Stall]) -> u64
+    pub fn awake(&self, from: u64, to: u64, stalls: &[StallTime]) -> u64
         requires sound { IsPace self.now }
         requires early { to ≤ steps_before self.now (2 ^ 53) }
         ensures { result ≡ awake stalls.now self.now from (to - from) }
@@ -126,7 +126,7 @@ impl Pace {
 }
 
 /// Whether the reader makes no step at a moment.
-fn is_stalled(moment: u64, stalls: &[Stall]) -> bool
+fn is_stalled(moment: u64, stalls: &[StallTime]) -> bool
     ensures { result ≡ is_stalled stalls.now moment }
 {
     for stall in stalls {
@@ -138,7 +138,7 @@ fn is_stalled(moment: u64, stalls: &[Stall]) -> bool
 }
 
 /// A moment later than this one, up to which no stall begins or ends.
-fn next_change(moment: u64, stalls: &[Stall]) -> u64
+fn next_change(moment: u64, stalls: &[StallTime]) -> u64
     requires { moment < 2 ^ 53 }
     ensures later { moment < result }
     ensures early { result ≤ 2 ^ 53 }
@@ -152,7 +152,7 @@ fn next_change(moment: u64, stalls: &[Stall]) -> u64
     next
 }
 
-impl Stall {
+impl StallTime {
     /// Whether the reader makes no step at a moment.
     fn holds(&self, moment: u64) -> bool
         ensures { result ≡ (nat_le self.now.from moment

@@ -10,7 +10,7 @@ ghost use Rattle.ring_sizes.specs.Phases.{AreTried, IsBeginning, IsFirstFewest, 
 ghost use Rattle.ring_sizes.specs.Phases.{IsPhase, begun, drops_of};
 ghost use Rattle.ring_sizes.specs.Schedules.{schedule_to};
 
-use crate::{Arrival, Pace, Reached, Stall, Tries, losses_at};
+use crate::{Arrival, Reached, StallTime, Timing, Tries, losses_at};
 
 /// The fewest and the most packets that a ring drops at the beginnings that are tried, each with
 /// the first at which it is reached.
@@ -26,9 +26,9 @@ pub struct DropRange {
 pub fn losses_of_all(
     room: u32,
     blocks: u32,
-    pace: &Pace,
+    pace: &Timing,
     tries: &Tries,
-    stalls: &[Stall],
+    stalls: &[StallTime],
     arrivals: &[Arrival],
     end: u64,
 ) -> DropRange
@@ -71,9 +71,9 @@ pub fn losses_of_all(
 fn losses_at_phase(
     room: u32,
     blocks: u32,
-    pace: &Pace,
+    pace: &Timing,
     tries: &Tries,
-    stalls: &[Stall],
+    stalls: &[StallTime],
     arrivals: &[Arrival],
     end: u64,
 ) -> DropRange

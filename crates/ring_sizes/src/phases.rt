@@ -7,16 +7,16 @@ ghost use Rattle.ring_sizes.specs.Phases.{AreTried, IsBeginning, IsFirstMost, Is
 ghost use Rattle.ring_sizes.specs.Phases.{least_of};
 ghost use Rattle.ring_sizes.specs.Schedules.{schedule_to};
 
-use crate::{Arrival, Pace, Reached, Stall, Tries, least_at};
+use crate::{Arrival, Reached, StallTime, Timing, Tries, least_at};
 
 /// The least number of blocks, at least 1, with which a ring never freezes at any phase of the
 /// timer and any beginning of the reader that are tried; and the first at which it is reached.
 /// `pace` has any phase and start.
 pub fn least_of_all(
     room: u32,
-    pace: &Pace,
+    pace: &Timing,
     tries: &Tries,
-    stalls: &[Stall],
+    stalls: &[StallTime],
     arrivals: &[Arrival],
     end: u64,
 ) -> Reached
@@ -56,9 +56,9 @@ pub fn least_of_all(
 /// The same for the first phase of those that are tried.
 fn least_at_phase(
     room: u32,
-    pace: &Pace,
+    pace: &Timing,
     tries: &Tries,
-    stalls: &[Stall],
+    stalls: &[StallTime],
     arrivals: &[Arrival],
     end: u64,
 ) -> Reached

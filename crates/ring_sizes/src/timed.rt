@@ -10,11 +10,11 @@ ghost use Rattle.ring_sizes.specs.Rests.{after_last, after_next, read_to, rested
 ghost use Rattle.ring_sizes.specs.Schedules.{IsPace, schedule_to, steps_before, tick_moment};
 ghost use Rattle.ring_sizes.specs.Schedules.{ticks_by};
 
-use crate::{Arrival, Event, Pace, Pass, Stall};
+use crate::{Arrival, Event, Pass, StallTime, Timing};
 
 /// How far the timer and the reader have come at a frame's moment.
 #[derive(Clone, Copy)]
-struct Place {
+struct TimedPlace {
     /// How many ticks came by then, and when the next one comes.
     ticks: u64,
     tick_at: u64,
@@ -26,7 +26,13 @@ struct Place {
 /// The least number of blocks, at least 1, with which a ring never freezes whose frames come at
 /// these moments, beside a timer and a reader, in a run that ends at a moment. Between two frames
 /// it takes no longer than the ticks that open a block and the stalls that begin and end.
-pub fn least_at(room: u32, pace: &Pace, stalls: &[Stall], arrivals: &[Arrival], end: u64) -> u64
+pub fn least_at(
+    room: u32,
+    pace: &Timing,
+    stalls: &[StallTime],
+    arrivals: &[Arrival],
+    end: u64,
+) -> u64
     requires sound { IsPace pace.now }
     requires early { All (λ arrival. arrival.at < 2 ^ 53) arrivals.now }
     requires soon { end < 2 ^ 53 }
@@ -42,7 +48,13 @@ pub fn least_at(room: u32, pace: &Pace, stalls: &[Stall], arrivals: &[Arrival], 
 }
 
 /// The pass of a ring whose frames come at these moments, beside a timer and a reader.
-pub fn timed_pass(room: u32, pace: &Pace, stalls: &[Stall], arrivals: &[Arrival], end: u64) -> Pass
+pub fn timed_pass(
+    room: u32,
+    pace: &Timing,
+    stalls: &[StallTime],
+    arrivals: &[Arrival],
+    end: u64,
+) -> Pass
     requires sound { IsPace pace.now }
     requires early { All (λ arrival. arrival.at < 2 ^ 53) arrivals.now }
     requires soon { end < 2 ^ 53 }
@@ -52,13 +64,13 @@ pub fn timed_pass(room: u32, pace: &Pace, stalls: &[Stall], arrivals: &[Arrival]
 {
     let tov = u64::from(pace.tov);
     let mut pass = Pass::new(tov);
-    let mut place = Place::new(pace, 0);
+    let mut place = TimedPlace::new(pace, 0);
     let mut until = place.until();
     let mut at = 0;
     for arrival in arrivals {
         at = at.max(arrival.at);
         if until <= at {
-            let next = Place::new(pace, at);
+            let next = TimedPlace::new(pace, at);
             pass = place.rest(pass, pace, stalls, next.ticks, next.steps);
             place = next;
             until = place.until();
@@ -74,16 +86,16 @@ pub fn timed_pass(room: u32, pace: &Pace, stalls: &[Stall], arrivals: &[Arrival]
     )
 }
 
-impl Place {
+impl TimedPlace {
     /// At a frame's moment.
-    fn new(pace: &Pace, at: u64) -> Place
+    fn new(pace: &Timing, at: u64) -> TimedPlace
         requires sound { IsPace pace.now }
         requires early { at ≤ 2 ^ 53 }
         ensures { result ≡ place_at pace.now at }
     {
         let ticks = pace.ticks_by(at);
         let steps = pace.steps_before(at);
-        Place {
+        TimedPlace {
             ticks,
             tick_at: pace.tick_moment(ticks + 1),
             steps,
@@ -100,7 +112,7 @@ impl Place {
 
     /// The pass after the ticks up to this number and so many steps. It has both by value, so that
     /// a caller's loop keeps them in registers.
-    fn rest(self, pass: Pass, pace: &Pace, stalls: &[Stall], last: u64, to: u64) -> Pass
+    fn rest(self, pass: Pass, pace: &Timing, stalls: &[StallTime], last: u64, to: u64) -> Pass
         requires sound { IsPace pace.now }
         requires ticks { last ≤ ticks_by pace.now (2 ^ 53) }
         requires steps { to ≤ steps_before pace.now (2 ^ 53) }
@@ -125,7 +137,7 @@ impl Place {
 
 impl Pass {
     /// Takes the last tick of those after one, of which only the last matters with an empty block.
-    fn tick_on(&mut self, ticks: u64, last: u64, pace: &Pace)
+    fn tick_on(&mut self, ticks: u64, last: u64, pace: &Timing)
         requires small { last * pace.now.tov < 2 ^ 63 }
         requires within { IsWithin (2 ^ 63) self.old }
         ensures { self.new ≡ after_last pace.now ticks last self.old }
@@ -136,7 +148,7 @@ impl Pass {
     }
 
     /// Takes the reader's steps from one number on, up to another.
-    fn read_to(&mut self, from: u64, to: u64, pace: &Pace, stalls: &[Stall])
+    fn read_to(&mut self, from: u64, to: u64, pace: &Timing, stalls: &[StallTime])
         requires sound { IsPace pace.now }
         requires early { to ≤ steps_before pace.now (2 ^ 53) }
         requires within { IsWithin (2 ^ 63) self.old }

@@ -12,7 +12,7 @@ ghost use Rattle.ring_sizes.specs.Rests.{course_last, course_read};
 ghost use Rattle.ring_sizes.specs.Schedules.{IsPace, awake, beats, schedule_to};
 ghost use Rattle.ring_sizes.specs.Schedules.{steps_before, ticks_by};
 
-use crate::{Arrival, Course, Event, Pace, Stall};
+use crate::{Arrival, Course, Event, StallTime, Timing};
 use ring_model::Stats;
 
 /// The statistics over the whole run of a ring: with blocks that have this room for packets, and
@@ -21,8 +21,8 @@ use ring_model::Stats;
 pub fn losses_at(
     room: u32,
     blocks: u32,
-    pace: &Pace,
-    stalls: &[Stall],
+    pace: &Timing,
+    stalls: &[StallTime],
     arrivals: &[Arrival],
     end: u64,
 ) -> Stats
@@ -55,7 +55,15 @@ impl Course {
     /// Takes what the timer and the reader do from one moment on: the ticks up to this number, and
     /// the steps before another moment. It takes no longer than the ticks up to one that leaves an
     /// empty block.
-    fn rest(&mut self, blocks: u32, pace: &Pace, stalls: &[Stall], since: u64, last: u64, at: u64)
+    fn rest(
+        &mut self,
+        blocks: u32,
+        pace: &Timing,
+        stalls: &[StallTime],
+        since: u64,
+        last: u64,
+        at: u64,
+    )
         requires sound { IsPace pace.now }
         requires early { (since < 2 ^ 53) × (at ≤ 2 ^ 53) }
         requires last { last ≤ ticks_by pace.now at }
@@ -95,7 +103,7 @@ impl Course {
     }
 
     /// Takes the reader's steps from one moment on, before another.
-    fn read_from(&mut self, since: u64, at: u64, pace: &Pace, stalls: &[Stall])
+    fn read_from(&mut self, since: u64, at: u64, pace: &Timing, stalls: &[StallTime])
         requires sound { IsPace pace.now }
         requires early { (since ≤ 2 ^ 53) × (at ≤ 2 ^ 53) }
         requires small { IsSmall (2 ^ 63) self.old }

@@ -4,7 +4,7 @@ ghost use Rattle.std.specs.Prelude.{length};
 ghost use Rattle.ring_words.specs.Looks.{IfFree, IfHeld};
 ghost use Rattle.ring_words.specs.Rings.{IsStatus};
 
-use crate::handover::{FeederLooks, FeederStores, Handover, RingSeat, RingTable};
+use crate::handover::{FeederLookStep, FeederStoreStep, Handover, RingSeat, RingTable};
 use crate::knowledge::Known;
 use crate::sleepers::Sleeper;
 use crate::{Content, FeederEnd, Next};
@@ -93,7 +93,10 @@ impl<B: Content + Drop> FeederEnd<B> for TableFeeder<B> {
         ensures first { self.old.given ≡ 0 → found_in self.old.looks ≡ [] }
     {
         let place = (self.given % self.places) as usize;
-        let word = self.table.shared.load::<FeederLooks>(&mut self.seat, place);
+        let word = self
+            .table
+            .shared
+            .load::<FeederLookStep>(&mut self.seat, place);
         if word % 2 == 1 {
             return Next::Held(word / 256);
         }
@@ -125,7 +128,7 @@ impl<B: Content + Drop> FeederEnd<B> for TableFeeder<B> {
             .exchange(&mut self.seat, place, Some(block));
         self.table
             .shared
-            .store::<FeederStores>(&mut self.seat, place, word);
+            .store::<FeederStoreStep>(&mut self.seat, place, word);
         if self.sleeper.is_asleep(&self.seat, self.retired) {
             self.table.shared.wake_one(place);
         }

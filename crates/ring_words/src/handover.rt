@@ -25,44 +25,44 @@ pub(crate) type RingTable<B> = Table<Option<B>, Known, Snapshot<B>, Handover, Gl
 pub(crate) type RingSeat<B> = Seat<Option<B>, Known>;
 
 /// The feeder loads the word of the next place, and has the block out where the word is even.
-pub(crate) struct FeederLooks;
+pub(crate) struct FeederLookStep;
 
-impl<B: Content> Play<Option<B>, Known> for FeederLooks {
+impl<B: Content> Play<Option<B>, Known> for FeederLookStep {
     ghost then = { Looks B.bytes B.kind B.ready };
 }
 
 /// The feeder stores number and status, and the block is at its place.
-pub(crate) struct FeederStores;
+pub(crate) struct FeederStoreStep;
 
-impl<B: Content> Play<Option<B>, Known> for FeederStores {
+impl<B: Content> Play<Option<B>, Known> for FeederStoreStep {
     ghost then = { Stores B.bytes B.kind B.ready };
 }
 
 /// The reader loads the word of the next block, and has the block out where the word is odd.
-pub(crate) struct WalkerLooks;
+pub(crate) struct WalkerLookStep;
 
-impl<B: Content> Play<Option<B>, Known> for WalkerLooks {
+impl<B: Content> Play<Option<B>, Known> for WalkerLookStep {
     ghost then = { Fetches B.bytes B.kind B.ready };
 }
 
 /// The reader stores a mark, and the block is at its place.
-pub(crate) struct WalkerStores;
+pub(crate) struct WalkerStoreStep;
 
-impl<B: Content> Play<Option<B>, Known> for WalkerStores {
+impl<B: Content> Play<Option<B>, Known> for WalkerStoreStep {
     ghost then = { λ _. Frees B.bytes B.kind B.ready };
 }
 
 /// Both ends in one seat load a word, and learn that what was taken is a prefix of what was
 /// retired.
-pub(crate) struct BothCompare;
+pub(crate) struct CompareStep;
 
-impl<B: Content> Play<Option<B>, Known> for BothCompare {
+impl<B: Content> Play<Option<B>, Known> for CompareStep {
     ghost then = { λ _ before _ after. Compares B.bytes B.kind B.ready before after };
 }
 
 /// Both ends in one seat load the word of the next block, and have the block out.
-pub(crate) struct BothDrain;
+pub(crate) struct DrainBothStep;
 
-impl<B: Content> Play<Option<B>, Known> for BothDrain {
+impl<B: Content> Play<Option<B>, Known> for DrainBothStep {
     ghost then = { Drains B.bytes B.kind B.ready };
 }

@@ -6,7 +6,7 @@ ghost use Rattle.std.specs.List.{AllByRecursion};
 ghost use Rattle.ring_words.specs.Pendings.{AreReadyAfter, TookOne, entries_of};
 ghost use Rattle.ring_words.specs.TableEnds.{IsSeated, found_in, odd_count};
 
-use crate::handover::{BothCompare, BothDrain, Handover, RingSeat};
+use crate::handover::{CompareStep, DrainBothStep, Handover, RingSeat};
 use crate::knowledge::{Known, Together};
 use crate::{Content, TableFeeder, TableWalker};
 use atomic_table::Shared;
@@ -102,7 +102,7 @@ pub fn finish<B: Content + Drop>(
         ..
     } = walker;
     table.shared.join_seat::<Together>(&mut seat, other);
-    table.shared.load::<BothCompare>(&mut seat, 0);
+    table.shared.load::<CompareStep>(&mut seat, 0);
     let blocks = drain(alloc, &table.shared, &mut seat, places, taken, retired)?;
     Ok(Pending { blocks, seat })
 }
@@ -159,7 +159,7 @@ fn next_pending<B: Content>(
     ensures ready { B.ready result.0 (at + 1) result.1 }
 {
     let place = (at % places) as usize;
-    let word = table.load::<BothDrain>(seat, place);
+    let word = table.load::<DrainBothStep>(seat, place);
     match table.exchange(seat, place, None) {
         Some(block) => (block, (word % 256) as u32),
         None => unreachable!(),

@@ -3,7 +3,7 @@ ghost use Rattle.std.specs.Prelude.{◌≡◌, ◌+◌, ◌^◌, ◌<◌, true, 
 ghost use Rattle.std.specs.Prelude.{IfNone, OnSome};
 ghost use Rattle.ring_words.specs.Rings.{IsMark};
 
-use crate::handover::{Handover, RingSeat, RingTable, WalkerLooks, WalkerStores};
+use crate::handover::{Handover, RingSeat, RingTable, WalkerLookStep, WalkerStoreStep};
 use crate::knowledge::Known;
 use crate::sleepers::{Rest, Sleeper};
 use crate::{Content, WalkerEnd};
@@ -116,7 +116,10 @@ impl<B: Content + Drop> WalkerEnd<B> for TableWalker<B> {
         ensures none { IfNone result (FoundEven self.old self.new) }
     {
         let place = (self.taken % self.places) as usize;
-        let word = self.table.shared.load::<WalkerLooks>(&mut self.seat, place);
+        let word = self
+            .table
+            .shared
+            .load::<WalkerLookStep>(&mut self.seat, place);
         if word % 2 == 0 {
             return None;
         }
@@ -139,7 +142,7 @@ impl<B: Content + Drop> WalkerEnd<B> for TableWalker<B> {
             .exchange(&mut self.seat, place, Some(block));
         self.table
             .shared
-            .store::<WalkerStores>(&mut self.seat, place, mark as u64);
+            .store::<WalkerStoreStep>(&mut self.seat, place, mark as u64);
         self.released += 1;
     }
 }

@@ -2,7 +2,7 @@
 use Rattle.std.specs.Prelude.{ℕ, ◌+◌, List, [], ◌∷◌, map, slice_get, Option, None, Some}
 use Rattle.capture_file.specs.Capture.{frames_of}
 use Rattle.fanout_group.specs.Arrivals.{arrivals_at}
-use Rattle.fanout_group.specs.Judgements.{Lens, rules_by}
+use Rattle.fanout_group.specs.Judgements.{JudgeRules, rules_by}
 use Rattle.fanout_group.specs.Plans.{has_defrag}
 use Rattle.fanout_group.specs.Rules.{Rules}
 use Rattle.frame_view.specs.declared.frames.Frame.{Frame}
@@ -15,8 +15,8 @@ queue_in None = 0
 queue_in (Some cpu) = cpu.queue
 
 -- the rules by which a job judges its arrivals
-abbrev pub lens_of : Job → Lens
-lens_of job = record {
+abbrev pub judge_rules_of : Job → JudgeRules
+judge_rules_of job = record {
   key = job.setup.key;
   filter = job.program;
   own = job.setup.mac;
@@ -25,7 +25,7 @@ lens_of job = record {
 
 -- the rules of a job's group
 abbrev pub rules_of : Job → Rules
-rules_of job = rules_by job.setup.plan (lens_of job)
+rules_of job = rules_by job.setup.plan (judge_rules_of job)
 
 -- the frames of sources that gave these bytes, for CPUs with the numbers from this one up
 abbrev pub captures_from : ℕ → List (List ℕ) → List (List Frame)

@@ -15,13 +15,13 @@ const LINES: usize = 25;
 /// A line of points, and how far on it a point is. Lines 0 to 7 have the frames of each CPU, from
 /// 1; 8 to 15 the blocks that each member releases; 16 to 23 those that are decoded; 24 the
 /// moments.
-type Place = (usize, u64);
+type GatePlace = (usize, u64);
 
 /// A gate of a scenario's lines `hold POINT until POINT`.
 #[derive(Drop)]
 pub(crate) struct ScriptGate {
     /// The points that are held, and which each of them waits for.
-    holds: Vec<(Place, Place)>,
+    holds: Vec<(GatePlace, GatePlace)>,
     /// How far each line of points has come.
     reached: Vec<AtomicU64>,
     /// How often a thread gave up.
@@ -29,7 +29,7 @@ pub(crate) struct ScriptGate {
 }
 
 /// The place of words such as `frame 0.2`, `block 1.3`, `decode 1.3` or `moment 5`.
-fn place_of(words: &str) -> Place {
+fn place_of(words: &str) -> GatePlace {
     let (kind, rest) = parted(words);
     let (line, at) = rest.split_once('.').unwrap_or(("0", rest));
     let line = number(line).min(7);
@@ -43,7 +43,7 @@ fn place_of(words: &str) -> Place {
 }
 
 /// The place of a point.
-fn place_at(point: Point) -> Place {
+fn place_at(point: Point) -> GatePlace {
     match point {
         Point::Deliver { cpu, index } => ((cpu as usize).min(7), u64::from(index) + 1),
         Point::Released { member, blocks } => ((member as usize).min(7) + 8, blocks),
@@ -53,7 +53,7 @@ fn place_at(point: Point) -> Place {
 }
 
 /// What a scenario holds.
-fn holds_of(case: &Case<'_>) -> Result<Vec<(Place, Place)>, Memory> {
+fn holds_of(case: &Case<'_>) -> Result<Vec<(GatePlace, GatePlace)>, Memory> {
     let mut holds = Vec::new(case.alloc);
     for value in case.scenario.values(case.alloc, "hold")?.as_slice() {
         let (held, until) = value.split_once(" until ").unwrap_or((value, ""));
@@ -82,7 +82,7 @@ impl ScriptGate {
     }
 
     /// Waits until a line of points has come to a place, or gives up.
-    fn wait(&self, (line, at): Place) {
+    fn wait(&self, (line, at): GatePlace) {
         let Some(reached) = self.reached.as_slice().get(line) else {
             return;
         };

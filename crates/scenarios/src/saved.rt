@@ -28,13 +28,13 @@ fn has_at(bytes: &[u8], at: usize, part: &[u8]) -> bool {
 
 /// What a dump is made of: where a part has its status and its length, and how many of its bytes
 /// the length leaves out.
-type Parts = (usize, usize, usize);
+type DumpParts = (usize, usize, usize);
 
 /// The slots of TPACKET_V2, each up to the end of its packet.
-const SLOTS: Parts = (0, 8, 66);
+const SLOTS: DumpParts = (0, 8, 66);
 
 /// The blocks of TPACKET_V3.
-const BLOCKS: Parts = (8, 20, 0);
+const BLOCKS: DumpParts = (8, 20, 0);
 
 /// The bytes of a number of 32 bits in a dump.
 fn field(value: usize) -> [u8; 4] {
@@ -42,7 +42,7 @@ fn field(value: usize) -> [u8; 4] {
 }
 
 /// The bytes after a part of the status and length that a word says; `None` where it isn't there.
-fn after_part<'a>(bytes: &'a [u8], parts: Parts, word: &str) -> Option<&'a [u8]> {
+fn after_part<'a>(bytes: &'a [u8], parts: DumpParts, word: &str) -> Option<&'a [u8]> {
     let (status, length) = word.split_once(':')?;
     let size = number(length);
     let (part, rest) = bytes.split_at_checked(size)?;
@@ -52,7 +52,7 @@ fn after_part<'a>(bytes: &'a [u8], parts: Parts, word: &str) -> Option<&'a [u8]>
 }
 
 /// Whether a dump consists of the parts of these words.
-fn is_dump_of(dump: &[u8], parts: Parts, words: &str) -> bool {
+fn is_dump_of(dump: &[u8], parts: DumpParts, words: &str) -> bool {
     let mut rest = dump;
     for index in 0..count_of(words) {
         match after_part(rest, parts, word_at(words, index)) {

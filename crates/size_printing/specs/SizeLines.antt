@@ -1,6 +1,7 @@
 -- The printed lines of what is found out about the rings of a group, as bytes. Numbers are decimal,
 -- and a line feed ends each line.
-use Rattle.std.specs.Prelude.{ℕ, ◌+◌, ◌*◌, max, Bool, ◌||◌, nat_lt, List, [], ◌∷◌, ◌++◌, codes, decimal}
+use Rattle.std.specs.Prelude.{ℕ, ◌+◌, ◌*◌, max, Bool, ◌||◌, nat_lt, List, [], ◌∷◌, ◌++◌, codes}
+use Rattle.std.specs.Prelude.{decimal}
 use Rattle.std.specs.Prelude.{if◌then◌else◌}
 use Rattle.reader_pace.specs.KindWords.{kind_word}
 use Rattle.reader_pace.specs.declared.reader_error.ReaderError.{ReaderError}
@@ -98,4 +99,5 @@ size_lines kind unit report =
 -- the line that says why a reader's text is refused
 unfoldable pub reader_refusal : ReaderError → List ℕ
 reader_refusal error =
-    codes "reader line " ++ (decimal error.line ++ (codes ": " ++ (kind_word error.kind ++ codes "\n")))
+    codes "reader line " ++ (decimal error.line ++ (codes ": "
+        ++ (kind_word error.kind ++ codes "\n")))

@@ -2,7 +2,7 @@
 //! by its rules in Python, which makes each tick and each step of the reader by itself.
 use ring_model::Stats;
 use ring_sizes::{
-    Arrival, DropRange, Pace, Reached, Stall, Tries, least_at, least_of_all, losses_at,
+    Arrival, DropRange, Reached, StallTime, Timing, Tries, least_at, least_of_all, losses_at,
     losses_of_all,
 };
 
@@ -62,23 +62,26 @@ const ARRIVALS: [Arrival; 11] = [
     },
 ];
 
-/// A reader that takes all each 6 ms, and does nothing for 8 ms.
+/// A reader that takes all each 6 ms.
+const TAKES_ALL: Timing = Timing {
+    tov: 5,
+    phase: 2,
+    span: 6_000_000,
+    parts: 1,
+    start: 5_000_000,
+    takes_all: true,
+};
+
+/// It does nothing for 8 ms.
+const STALLS: [StallTime; 1] = [StallTime {
+    from: 13_000_000,
+    length: 8_000_000,
+}];
+
 #[test]
 fn a_reader_that_takes_all_and_stalls(rt: HostRuntime) {
-    let pace = Pace {
-        tov: 5,
-        phase: 2,
-        span: 6_000_000,
-        parts: 1,
-        start: 5_000_000,
-        takes_all: true,
-    };
-    let stalls = [Stall {
-        from: 13_000_000,
-        length: 8_000_000,
-    }];
-    assert_eq!(rt; least_at(ROOM, &pace, &stalls, &ARRIVALS, END), 4);
-    let two = losses_at(ROOM, 2, &pace, &stalls, &ARRIVALS, END);
+    assert_eq!(rt; least_at(ROOM, &TAKES_ALL, &STALLS, &ARRIVALS, END), 4);
+    let two = losses_at(ROOM, 2, &TAKES_ALL, &STALLS, &ARRIVALS, END);
     assert_eq!(rt;
         two,
         Stats {
@@ -87,7 +90,7 @@ fn a_reader_that_takes_all_and_stalls(rt: HostRuntime) {
             freezes: 1
         }
     );
-    let three = losses_at(ROOM, 3, &pace, &stalls, &ARRIVALS, END);
+    let three = losses_at(ROOM, 3, &TAKES_ALL, &STALLS, &ARRIVALS, END);
     assert_eq!(rt;
         three,
         Stats {
@@ -96,7 +99,11 @@ fn a_reader_that_takes_all_and_stalls(rt: HostRuntime) {
             freezes: 1
         }
     );
-    let worst = least_of_all(ROOM, &pace, &TRIES, &stalls, &ARRIVALS, END);
+}
+
+#[test]
+fn a_reader_that_takes_all_and_stalls_whenever_it_began(rt: HostRuntime) {
+    let worst = least_of_all(ROOM, &TAKES_ALL, &TRIES, &STALLS, &ARRIVALS, END);
     assert_eq!(rt;
         worst,
         Reached {
@@ -105,7 +112,7 @@ fn a_reader_that_takes_all_and_stalls(rt: HostRuntime) {
             from: 1
         }
     );
-    let range = losses_of_all(ROOM, 2, &pace, &TRIES, &stalls, &ARRIVALS, END);
+    let range = losses_of_all(ROOM, 2, &TAKES_ALL, &TRIES, &STALLS, &ARRIVALS, END);
     assert_eq!(rt;
         range,
         DropRange {
@@ -126,7 +133,7 @@ fn a_reader_that_takes_all_and_stalls(rt: HostRuntime) {
 /// A reader that takes 150 blocks a second.
 #[test]
 fn a_reader_of_one_block_at_a_time(rt: HostRuntime) {
-    let pace = Pace {
+    let pace = Timing {
         tov: 5,
         phase: 0,
         span: 1_000_000_000,
@@ -174,7 +181,7 @@ fn a_reader_of_one_block_at_a_time(rt: HostRuntime) {
 /// Ticks come after the last frame of a ring, up to the last of all rings.
 #[test]
 fn ticks_after_the_last_frame_count(rt: HostRuntime) {
-    let pace = Pace {
+    let pace = Timing {
         tov: 5,
         phase: 2,
         span: 6_000_000,

@@ -1,6 +1,6 @@
 //! Rings of slots, with numbers from a second program: a ring by its rules in Python.
 use ring_model::Stats;
-use ring_sizes::{Arrival, DropRange, Pace, Reached, Stall, Tries};
+use ring_sizes::{Arrival, DropRange, Reached, StallTime, Timing, Tries};
 use slot_sizes::{least_slots_at, least_slots_of_all, slot_losses_at, slot_losses_of_all};
 
 const ARRIVALS: [Arrival; 11] = [
@@ -59,7 +59,7 @@ fn reached(number: u64, from: u32) -> Reached {
 /// A reader that takes all each 4 ms, and does nothing from 9 to 13 ms.
 #[test]
 fn a_reader_that_takes_all_slots_and_stalls(rt: HostRuntime) {
-    let pace = Pace {
+    let pace = Timing {
         tov: 1,
         phase: 0,
         span: 4_000_000,
@@ -73,7 +73,7 @@ fn a_reader_that_takes_all_slots_and_stalls(rt: HostRuntime) {
         first_from: 0,
         from_end: 4,
     };
-    let stalls = [Stall {
+    let stalls = [StallTime {
         from: 9_000_000,
         length: 4_000_000,
     }];
@@ -102,7 +102,7 @@ fn a_reader_that_takes_all_slots_and_stalls(rt: HostRuntime) {
 /// A reader that takes 400 slots a second.
 #[test]
 fn a_reader_of_one_slot_at_a_time(rt: HostRuntime) {
-    let pace = Pace {
+    let pace = Timing {
         tov: 1,
         phase: 0,
         span: 1_000_000_000,

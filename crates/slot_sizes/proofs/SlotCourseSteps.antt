@@ -8,8 +8,8 @@ use Rattle.ring_sizes.specs.Schedules.{awake, step_event, steps_before, steps_fr
 use Rattle.ring_sizes.specs.declared.events.Event.{Event}
 use Rattle.ring_sizes.specs.declared.events.Event.TheVariants.{Packet, Read, ReadAll}
 use Rattle.ring_sizes.specs.declared.paces.Arrival.{Arrival}
-use Rattle.ring_sizes.specs.declared.paces.Pace.{Pace}
-use Rattle.ring_sizes.specs.declared.paces.Stall.{Stall}
+use Rattle.ring_sizes.specs.declared.paces.Timing.{Timing}
+use Rattle.ring_sizes.specs.declared.paces.StallTime.{StallTime}
 use Rattle.ring_sizes.proofs.ReaderSteps.{all_again, more_read, none_read, not_none}
 use Rattle.slot_sizes.specs.SlotCourses.{all_slots_went_on, slot_course_read, slot_course_stats, slot_fed, slot_went_on}
 use Rattle.slot_sizes.specs.SlotSchedules.{slot_schedule_from}
@@ -70,7 +70,7 @@ module _ (slots : ℕ) where
   reads true steps course = reads_all steps course
   reads false steps course = reads_one steps course
 
-module _ (slots : ℕ) (stalls : List Stall) (pace : Pace) where
+module _ (slots : ℕ) (stalls : List StallTime) (pace : Timing) where
   abbrev awake_to : ℕ → ℕ → ℕ
   awake_to since at = awake stalls pace (steps_before pace since) (steps_before pace at - steps_before pace since)
 

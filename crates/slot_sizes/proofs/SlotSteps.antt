@@ -11,8 +11,8 @@ use Rattle.ring_sizes.specs.Schedules.{awake, step_event, steps_before, steps_fr
 use Rattle.ring_sizes.specs.declared.events.Event.{Event}
 use Rattle.ring_sizes.specs.declared.events.Event.TheVariants.{Packet, Read, ReadAll}
 use Rattle.ring_sizes.specs.declared.paces.Arrival.{Arrival}
-use Rattle.ring_sizes.specs.declared.paces.Pace.{Pace}
-use Rattle.ring_sizes.specs.declared.paces.Stall.{Stall}
+use Rattle.ring_sizes.specs.declared.paces.Timing.{Timing}
+use Rattle.ring_sizes.specs.declared.paces.StallTime.{StallTime}
 use Rattle.ring_sizes.proofs.Frames.{max_below}
 use Rattle.ring_sizes.proofs.ReaderSteps.{all_again, more_read, none_read, not_none}
 use Rattle.slot_sizes.specs.SlotPasses.{all_slots_passed, slot_passed, slots_read, with_slot}
@@ -33,7 +33,7 @@ soon arrivals index default since next inside all early is =
     omega (arith, is, max_below since (get_or arrivals index default).at (2 ^ 53) early here)
 
 -- the steps of the reader before a frame
-pub steps_are : (stalls : List Stall) (pace : Pace) (since at from to steps : ℕ) → from ≡ steps_before pace since
+pub steps_are : (stalls : List StallTime) (pace : Timing) (since at from to steps : ℕ) → from ≡ steps_before pace since
     → to ≡ steps_before pace at → steps ≡ awake stalls pace from (to - from)
     → steps ≡ awake stalls pace (steps_before pace since) (steps_before pace at - steps_before pace since)
 steps_are stalls pace since at from to steps e f is =
@@ -77,7 +77,7 @@ pub reads : (takes_all : Bool) (steps : ℕ) (pass : SlotPass)
 reads true steps pass = reads_all steps pass
 reads false steps pass = reads_one steps pass
 
-module _ (stalls : List Stall) (pace : Pace) where
+module _ (stalls : List StallTime) (pace : Timing) where
   abbrev awake_to : ℕ → ℕ → ℕ
   awake_to since at = awake stalls pace (steps_before pace since) (steps_before pace at - steps_before pace since)
 

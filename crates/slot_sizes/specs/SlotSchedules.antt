@@ -5,13 +5,13 @@ use Rattle.ring_sizes.specs.Schedules.{steps_from}
 use Rattle.ring_sizes.specs.declared.events.Event.{Event}
 use Rattle.ring_sizes.specs.declared.events.Event.TheVariants.{Packet}
 use Rattle.ring_sizes.specs.declared.paces.Arrival.{Arrival}
-use Rattle.ring_sizes.specs.declared.paces.Pace.{Pace}
-use Rattle.ring_sizes.specs.declared.paces.Stall.{Stall}
+use Rattle.ring_sizes.specs.declared.paces.Timing.{Timing}
+use Rattle.ring_sizes.specs.declared.paces.StallTime.{StallTime}
 use Rattle.slot_sizes.specs.SlotCourses.{all_slots_went_on, first_slot_course}
 use Rattle.slot_sizes.specs.SlotPasses.{all_slots_passed, first_slot_pass}
 
 -- the events by the end, if the frame before these came at a moment
-abbrev pub slot_schedule_from : List Stall → Pace → ℕ → ℕ → List Arrival → List Event
+abbrev pub slot_schedule_from : List StallTime → Timing → ℕ → ℕ → List Arrival → List Event
 slot_schedule_from stalls pace end since [] = steps_from stalls pace since (end + 1)
 slot_schedule_from stalls pace end since (arrival ∷ arrivals) =
     let at = max since arrival.at in
@@ -20,15 +20,15 @@ slot_schedule_from stalls pace end since (arrival ∷ arrivals) =
 
 -- the events of a ring with these frames in a run that ends at a moment; the timer of the pace has
 -- no meaning
-abbrev pub slot_schedule_to : List Stall → Pace → List Arrival → ℕ → List Event
+abbrev pub slot_schedule_to : List StallTime → Timing → List Arrival → ℕ → List Event
 slot_schedule_to stalls pace arrivals end = slot_schedule_from stalls pace end 0 arrivals
 
 -- the number of slots that a pass over the schedule reports
-abbrev pub least_slots_of : List Stall → Pace → List Arrival → ℕ → ℕ
+abbrev pub least_slots_of : List StallTime → Timing → List Arrival → ℕ → ℕ
 least_slots_of stalls pace arrivals end =
     (all_slots_passed (slot_schedule_to stalls pace arrivals end) first_slot_pass).least
 
 -- the packets that a course over the schedule drops
-abbrev pub slot_drops_of : ℕ → List Stall → Pace → List Arrival → ℕ → ℕ
+abbrev pub slot_drops_of : ℕ → List StallTime → Timing → List Arrival → ℕ → ℕ
 slot_drops_of slots stalls pace arrivals end =
     (all_slots_went_on slots (slot_schedule_to stalls pace arrivals end) first_slot_course).dropped

@@ -13,7 +13,7 @@ ghost use Rattle.slot_sizes.specs.SlotHappenings.{all_slots_happened};
 ghost use Rattle.slot_sizes.specs.SlotSchedules.{slot_schedule_to};
 
 use ring_model::Stats;
-use ring_sizes::{Arrival, Pace, Stall};
+use ring_sizes::{Arrival, StallTime, Timing};
 
 /// What a ring of slots has come to.
 #[derive(Clone, Copy)]
@@ -28,7 +28,12 @@ pub struct SlotCourse {
 
 /// The statistics over the whole run of a ring of this number of slots, whose frames come at these
 /// moments, beside a reader. The timer of the pace has no meaning, nor has the end of the run.
-pub fn slot_losses_at(slots: u32, pace: &Pace, stalls: &[Stall], arrivals: &[Arrival]) -> Stats
+pub fn slot_losses_at(
+    slots: u32,
+    pace: &Timing,
+    stalls: &[StallTime],
+    arrivals: &[Arrival],
+) -> Stats
     requires sound { IsPace pace.now }
     requires early { All (λ arrival. arrival.at < 2 ^ 53) arrivals.now }
     ensures stats { (end : ℕ) → result ≡ slot_course_stats (all_slots_went_on slots

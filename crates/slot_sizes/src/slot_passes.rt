@@ -8,7 +8,7 @@ ghost use Rattle.slot_sizes.specs.SlotHappenings.{IsNeverFull};
 ghost use Rattle.slot_sizes.specs.SlotPasses.{first_slot_pass, slots_read, with_slot};
 ghost use Rattle.slot_sizes.specs.SlotSchedules.{least_slots_of, slot_schedule_to};
 
-use ring_sizes::{Arrival, Pace, Stall};
+use ring_sizes::{Arrival, StallTime, Timing};
 
 /// What a ring that always has a slot more has come to.
 #[derive(Clone, Copy)]
@@ -24,7 +24,7 @@ pub struct SlotPass {
 /// The least number of slots, at least 1, with which no packet of a ring finds its slot still the
 /// reader's: its frames come at these moments, beside a reader. The timer of the pace has no
 /// meaning, nor has the end of the run.
-pub fn least_slots_at(pace: &Pace, stalls: &[Stall], arrivals: &[Arrival]) -> u64
+pub fn least_slots_at(pace: &Timing, stalls: &[StallTime], arrivals: &[Arrival]) -> u64
     requires sound { IsPace pace.now }
     requires early { All (λ arrival. arrival.at < 2 ^ 53) arrivals.now }
     ensures some { 1 ≤ result }

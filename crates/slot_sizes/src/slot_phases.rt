@@ -13,15 +13,15 @@ ghost use Rattle.slot_sizes.specs.SlotSchedules.{least_slots_of, slot_drops_of};
 ghost use Rattle.slot_sizes.specs.SlotSchedules.{slot_schedule_to};
 
 use crate::{least_slots_at, slot_losses_at};
-use ring_sizes::{Arrival, DropRange, Pace, Reached, Stall, Tries};
+use ring_sizes::{Arrival, DropRange, Reached, StallTime, Timing, Tries};
 
 /// The least number of slots, at least 1, with which no packet finds its slot still the reader's at
 /// any beginning of the reader that is tried; and the first at which it is reached. A ring of slots
 /// has no timer, so the first phase alone is tried.
 pub fn least_slots_of_all(
-    pace: &Pace,
+    pace: &Timing,
     tries: &Tries,
-    stalls: &[Stall],
+    stalls: &[StallTime],
     arrivals: &[Arrival],
 ) -> Reached
     requires tried { AreTried pace.now tries.now }
@@ -66,9 +66,9 @@ pub fn least_slots_of_all(
 /// tried.
 pub fn slot_losses_of_all(
     slots: u32,
-    pace: &Pace,
+    pace: &Timing,
     tries: &Tries,
-    stalls: &[Stall],
+    stalls: &[StallTime],
     arrivals: &[Arrival],
 ) -> DropRange
     requires tried { AreTried pace.now tries.now }

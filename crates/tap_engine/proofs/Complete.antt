@@ -44,8 +44,8 @@ use Rattle.tap_engine.specs.Jobs.{HasBadFilter, HasBadSchedule, HasBadText, HasB
 use Rattle.tap_engine.specs.Jobs.{lines_for}
 use Rattle.tap_engine.specs.Names.{filter_for, first_file, ticks_for}
 use Rattle.tap_engine.specs.Sendings.{IsSent}
-use Rattle.tap_engine.specs.declared.findings.Finding.{Finding}
-use Rattle.tap_engine.specs.declared.findings.Finding.TheVariants as finding
+use Rattle.tap_engine.specs.declared.findings.CommandResult.{CommandResult}
+use Rattle.tap_engine.specs.declared.findings.CommandResult.TheVariants as finding
 use Rattle.tap_engine.specs.declared.outcomes.Outcome.{Outcome}
 use Rattle.tap_engine.specs.declared.outcomes.Status.{Status}
 use Rattle.tap_engine.specs.declared.outcomes.Status.TheVariants as statuses
@@ -61,7 +61,7 @@ use Rattle.tap_running.proofs.Stores.{none_rose}
 use Rattle.tap_running.proofs.TextLimits.{sound_filter}
 use Rattle.tap_running.proofs.Wholes.{none_faults, whole_end}
 
-worth_in : (old new : StoreSeen) (command : Option Named) (found : Finding)
+worth_in : (old new : StoreSeen) (command : Option Named) (found : CommandResult)
     → IsFound command old new found
     → IsWorth command old new (report_in found)
 worth_in old new None finding.NoCommand h = tt
@@ -301,7 +301,7 @@ fine_sending files old new named setup sending held sound h none =
     capture.all (none_faults sending.end none))
     refl
 
-fine_found : (files : Contents) (named : Named) (old new : StoreSeen) (found : Finding)
+fine_found : (files : Contents) (named : Named) (old new : StoreSeen) (found : CommandResult)
     → old.held ≡ Some files → IsSound files named
     → (RoseBy 1 old.read_faults new.read_faults → ⊥) → IsFound (Some named) old new found
     → status_of found ≡ statuses.Fine
@@ -324,7 +324,7 @@ fine_found files named old new (finding.Sent setup sending) is sound sane h =
     (none_rose (fault_at sending.end) old.read_faults new.read_faults sane h.1.rose)
 
 -- a fault of saving or printing was counted
-failed_count : (found : Finding) (status : Status) (old new : StoreSeen) (before after : SinkSeen)
+failed_count : (found : CommandResult) (status : Status) (old new : StoreSeen) (before after : SinkSeen)
     → IsFailed found status old new before after
     → (RoseBy 1 old.save_faults new.save_faults → ⊥) → (RoseBy 1 before.faults after.faults → ⊥) → ⊥
 failed_count found status old new before after f saves prints = by f.cause where

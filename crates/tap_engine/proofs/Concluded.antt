@@ -14,8 +14,8 @@ use Rattle.tap_engine.specs.Conclusions.{Concludes, IsDone, IsFailed}
 use Rattle.tap_running.specs.Prints.{IsPrinted}
 use Rattle.tap_engine.specs.Findings.{files_of, lines_of, status_by_end}
 use Rattle.tap_engine.specs.Findings.{status_of, status_of_logs}
-use Rattle.tap_engine.specs.declared.findings.Finding.{Finding}
-use Rattle.tap_engine.specs.declared.findings.Finding.TheVariants as finding
+use Rattle.tap_engine.specs.declared.findings.CommandResult.{CommandResult}
+use Rattle.tap_engine.specs.declared.findings.CommandResult.TheVariants as finding
 use Rattle.tap_engine.specs.declared.outcomes.Outcome.{Outcome}
 use Rattle.tap_engine.specs.declared.outcomes.Status.{Status}
 use Rattle.tap_engine.specs.declared.outcomes.Status.TheVariants as statuses
@@ -35,7 +35,7 @@ hold_all (false ∷ missed) before after (file ∷ files) none hold =
 abbrev pub status_with : Bool → Bool → Status → Status
 status_with saved printed status = if saved && printed then status else statuses.WriteFault
 
-ended : (found : Finding) (old new : StoreSeen) (before after : SinkSeen) (saved printed : Bool)
+ended : (found : CommandResult) (old new : StoreSeen) (before after : SinkSeen) (saved printed : Bool)
     → Saved old new (files_of found) saved → IsPrinted before after (lines_of found) printed
     → IsDone found (status_with saved printed (status_of found)) old new before after
     ⊎ IsFailed found (status_with saved printed (status_of found)) old new before after
@@ -70,7 +70,7 @@ ended found old new before after false printed s p =
       cause = inl s.none_or_some;
     })
 
-pub ended_by : (found : Finding) (old new : StoreSeen) (before after : SinkSeen)
+pub ended_by : (found : CommandResult) (old new : StoreSeen) (before after : SinkSeen)
     (saved printed : Bool) (status : Status)
     → Saved old new (files_of found) saved → IsPrinted before after (lines_of found) printed
     → status ≡ status_with saved printed (status_of found)
@@ -135,7 +135,7 @@ logs_no_want cpu [] = fine_no_want
 logs_no_want cpu (log ∷ logs) = by_end_no_want cpu log.end (status_of_logs (cpu + 1) logs)
     (logs_no_want (cpu + 1) logs)
 
-no_want : (found : Finding) → status_of found ≢ statuses.Memory
+no_want : (found : CommandResult) → status_of found ≢ statuses.Memory
 no_want finding.NoCommand e = cc
 no_want finding.Unread e = cc
 no_want (finding.BadSetup error) e = cc
@@ -147,7 +147,7 @@ no_want (finding.Sent setup sending) e = by_end_no_want 0 sending.end statuses.F
 fault_no_want : statuses.WriteFault ≢ statuses.Memory
 fault_no_want e = cc
 
-pub no_memory : (found : Finding) (outcome : Outcome) (old new : StoreSeen)
+pub no_memory : (found : CommandResult) (outcome : Outcome) (old new : StoreSeen)
     (before after : SinkSeen)
     → Concludes found outcome old new before after → outcome.status ≢ statuses.Memory
 no_memory found outcome old new before after c e = by c.ended where

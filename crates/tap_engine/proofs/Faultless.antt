@@ -15,8 +15,8 @@ use Rattle.tap_engine.specs.Findings.{IsFound, faults_in, status_by_end, status_
 use Rattle.tap_running.specs.Captures.{fault_at}
 use Rattle.tap_engine.specs.Findings.{status_of_logs}
 use Rattle.tap_engine.specs.Jobs.{HasBadText}
-use Rattle.tap_engine.specs.declared.findings.Finding.{Finding}
-use Rattle.tap_engine.specs.declared.findings.Finding.TheVariants as finding
+use Rattle.tap_engine.specs.declared.findings.CommandResult.{CommandResult}
+use Rattle.tap_engine.specs.declared.findings.CommandResult.TheVariants as finding
 use Rattle.tap_engine.specs.declared.outcomes.Outcome.{Outcome}
 use Rattle.tap_engine.specs.declared.outcomes.Status.{Status}
 use Rattle.tap_engine.specs.declared.outcomes.Status.TheVariants as statuses
@@ -55,7 +55,7 @@ text_refused old new named error (inl filter) = filter.refused.texts.unfailed
 text_refused old new named error (inr (inl ticks)) = ticks.refused.texts.unfailed
 text_refused old new named error (inr (inr schedule)) = schedule.refused.texts.unfailed
 
-no_read_failed : (old new : StoreSeen) (command : Option Named) (found : Finding)
+no_read_failed : (old new : StoreSeen) (command : Option Named) (found : CommandResult)
     → IsFound command old new found → status_of found ≢ statuses.ReadFault → NoReadFailed old new
 no_read_failed old new None finding.NoCommand h other = h.unfailed
 no_read_failed old new None finding.Unread h other = absurd h

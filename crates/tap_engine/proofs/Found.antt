@@ -20,19 +20,19 @@ use Rattle.tap_outside.proofs.Taken.{none_open, none_open_then}
 use Rattle.tap_outside.specs.Counts.{RoseBy}
 use Rattle.tap_reading.specs.Fronts.{CantRead, RanOut, ReadTexts, text_entry}
 use Rattle.tap_reading.specs.Readers.{Refuses, Says, StopsAtSetup, StopsAtText}
-use Rattle.tap_reading.specs.declared.stops.Stop.{Stop}
-use Rattle.tap_reading.specs.declared.stops.Stop.TheVariants as stops
+use Rattle.tap_reading.specs.declared.stops.LoadError.{LoadError}
+use Rattle.tap_reading.specs.declared.stops.LoadError.TheVariants as stops
 use Rattle.tap_saving.specs.Files.{names_from}
 use Rattle.tap_engine.specs.Commands.{Named, has_schedule, sends}
-use Rattle.tap_engine.specs.Findings.{IsFound, IsReady, IsReported, IsSentBy, finding_of, names_of}
+use Rattle.tap_engine.specs.Findings.{IsFound, IsReady, IsReported, IsSentBy, command_result_of, names_of}
 use Rattle.tap_engine.specs.Headline.{CapturesFor, IsHeadline, rules_for}
 use Rattle.tap_engine.specs.Given.{Texts, first_texts}
 use Rattle.tap_running.specs.Texts.{CantReadNext}
 use Rattle.tap_engine.specs.Jobs.{CantReadText, HasSetup, IsAsked, IsLoaded, Stops}
 use Rattle.tap_engine.specs.Jobs.{lines_for}
 use Rattle.tap_engine.specs.Conclusions.{IsCut, IsSearched}
-use Rattle.tap_engine.specs.declared.findings.Finding.{Finding}
-use Rattle.tap_engine.specs.declared.findings.Finding.TheVariants as finding
+use Rattle.tap_engine.specs.declared.findings.CommandResult.{CommandResult}
+use Rattle.tap_engine.specs.declared.findings.CommandResult.TheVariants as finding
 use Rattle.tap_engine.specs.Names.{AreMeant, AreMeantToRead, AreMeantToSave, filter_for}
 use Rattle.tap_engine.specs.Names.{names_to_read, saved_for, ticks_for}
 use Rattle.tap_engine.proofs.Ends.{report_members}
@@ -45,7 +45,7 @@ use Rattle.tap_running.proofs.TextOrder.{next_rose, ran_out_later, refuses_earli
 
 -- ---- why a text stops a command, from its start
 
-pub at_setup : (old new : StoreSeen) (named : Named) (stop : Stop)
+pub at_setup : (old new : StoreSeen) (named : Named) (stop : LoadError)
     → StopsAtSetup named.command old new named.setup stop → Stops old new named stop
 at_setup old new named stops.Unread h =
     inl (unread_next old old new [] named.setup (read_none old) h)
@@ -53,7 +53,7 @@ at_setup old new named (stops.Setup error) h = h
 at_setup old new named (stops.Text error) h = absurd h
 at_setup old new named stops.Memory h = inl h
 
-pub at_filter : (old new : StoreSeen) (name : List ℕ) (stop : Stop)
+pub at_filter : (old new : StoreSeen) (name : List ℕ) (stop : LoadError)
     → StopsAtText filter_of old new name stop
     → (start : StoreSeen) (named : Named) (text : List ℕ) (setup : Setup)
     → ReadTexts start old (text_entry named.setup text ∷ [])
@@ -82,7 +82,7 @@ at_filter old new name (stops.Text error) h start named text setup texts has is 
 at_filter old new name stops.Memory h start named text setup texts has is =
     inl (ran_out_later start old new (text_entry named.setup text ∷ []) texts h)
 
-pub at_ticks : (old new : StoreSeen) (name : List ℕ) (stop : Stop)
+pub at_ticks : (old new : StoreSeen) (name : List ℕ) (stop : LoadError)
     → StopsAtText moments_of old new name stop
     → (start : StoreSeen) (named : Named) (texts : Texts) (job : Job)
     → IsLoaded start old named texts job
@@ -110,7 +110,7 @@ at_ticks old new name (stops.Text error) h start named texts job loaded is =
 at_ticks old new name stops.Memory h start named texts job loaded is =
     inl (ran_out_later start old new (first_texts named job.setup texts) loaded.read_is h)
 
-pub at_schedule : (old new : StoreSeen) (name : List ℕ) (job : Job) (stop : Stop)
+pub at_schedule : (old new : StoreSeen) (name : List ℕ) (job : Job) (stop : LoadError)
     → StopsAtText (lines_for job) old new name stop
     → (start : StoreSeen) (named : Named) (texts : Texts) → has_schedule named.command ≡ true
     → named.schedule ≡ name → IsLoaded start old named texts job → Stops start new named stop
@@ -162,9 +162,9 @@ unread_rose old new named (inr (inr (inr schedule))) =
     schedule.unread
 
 -- what is found if a text stops the command
-pub found_of : (old new : StoreSeen) (named : Named) (answer : Result Finding Stop)
+pub found_of : (old new : StoreSeen) (named : Named) (answer : Result CommandResult LoadError)
     → IfOk answer (IsFound (Some named) old new) → IfErr answer (Stops old new named)
-    → IfOk (finding_of answer) (IsFound (Some named) old new)
+    → IfOk (command_result_of answer) (IsFound (Some named) old new)
 found_of old new named (Ok found) h k = h
 found_of old new named (Err stops.Unread) h k = k
 found_of old new named (Err (stops.Setup error)) h k = k
@@ -172,9 +172,9 @@ found_of old new named (Err (stops.Text error)) h k = k
 found_of old new named (Err stops.Memory) h k = tt
 
 pub cut_of : (command : Option Named) (old new : StoreSeen) (named : Named)
-    (answer : Result Finding Stop) → command ≡ Some named
+    (answer : Result CommandResult LoadError) → command ≡ Some named
     → OnlyReads old new → IfErr answer (Stops old new named)
-    → OnErr (finding_of answer) (IsCut command old new)
+    → OnErr (command_result_of answer) (IsCut command old new)
 cut_of command old new named (Ok found) is reads h = tt
 cut_of command old new named (Err stops.Unread) is reads h = tt
 cut_of command old new named (Err (stops.Setup error)) is reads h = tt
@@ -186,8 +186,8 @@ cut_of command old new named (Err stops.Memory) is reads h = record { reads = re
     by (inl out) = inl out
     by (inr asked) = inr (named, is, asked)
 
-pub ready_of : (answer : Result Finding Stop) → IfOk answer IsReady
-    → IfOk (finding_of answer) IsReady
+pub ready_of : (answer : Result CommandResult LoadError) → IfOk answer IsReady
+    → IfOk (command_result_of answer) IsReady
 ready_of (Ok found) h = h
 ready_of (Err stops.Unread) h = tt
 ready_of (Err (stops.Setup error)) h = tt
@@ -236,7 +236,7 @@ report_names old new named setup report forwards h sent =
     ∙ ap (λ (sent : Bool). names_from setup sent 0 (length report.members))
     (sent_where (sends named.command) setup report forwards sent)
 
-pub saves_meant : (old new : StoreSeen) (command : Option Named) (found : Finding)
+pub saves_meant : (old new : StoreSeen) (command : Option Named) (found : CommandResult)
     → Untold old.held old.to_save
     → AreMeantToSave command old → IsFound command old new found
     → AllMeant old.to_save (names_of found)
@@ -269,19 +269,19 @@ saves_meant old new (Some named) (finding.Sent setup sending) untold all h =
 
 -- what stopped a command or was found is what the search found
 pub searched : (command : Option Named) (old new : StoreSeen) (named : Named)
-    (answer : Result Finding Stop) → command ≡ Some named → OnlyReads old new
+    (answer : Result CommandResult LoadError) → command ≡ Some named → OnlyReads old new
     → IfOk answer (IsFound (Some named) old new) → IfErr answer (Stops old new named)
-    → IsSearched command old new (finding_of answer)
+    → IsSearched command old new (command_result_of answer)
 searched command old new named answer is reads found stops = record {
   reads = reads;
-  found = subst (λ (c : Option Named). IfOk (finding_of answer) (IsFound c old new)) (sym is)
+  found = subst (λ (c : Option Named). IfOk (command_result_of answer) (IsFound c old new)) (sym is)
       (found_of old new named answer found stops);
   cut = cut_of command old new named answer is reads stops;
 }
 
 -- and what is saved of it is meant for saving
 pub searched_meant : (old new : StoreSeen) (command : Option Named)
-    (answer : Result Finding Memory) → Untold old.held old.to_save → AreMeantToSave command old
+    (answer : Result CommandResult Memory) → Untold old.held old.to_save → AreMeantToSave command old
     → IsSearched command old new answer
     → IfOk answer (λ found. AllMeant new.to_save (names_of found))
 searched_meant old new command (Err error) untold all h = tt

@@ -24,8 +24,8 @@ use Rattle.tap_engine.specs.Findings.{IsFound, report_in, status_by_end, status_
 use Rattle.tap_running.specs.Captures.{AreCaptures}
 use Rattle.tap_engine.specs.Headline.{CapturesFor, IsHeadline, rules_for}
 use Rattle.tap_engine.specs.InnerErrors.{HoldsNoMemory, IsOfCapture, IsOfTexts}
-use Rattle.tap_engine.specs.declared.findings.Finding.{Finding}
-use Rattle.tap_engine.specs.declared.findings.Finding.TheVariants as finding
+use Rattle.tap_engine.specs.declared.findings.CommandResult.{CommandResult}
+use Rattle.tap_engine.specs.declared.findings.CommandResult.TheVariants as finding
 use Rattle.tap_engine.specs.declared.outcomes.Outcome.{Outcome}
 use Rattle.tap_engine.specs.declared.outcomes.Status.{Status}
 use Rattle.tap_engine.specs.declared.outcomes.Status.TheVariants as statuses
@@ -109,7 +109,7 @@ by_logs cpu [] all = tt
 by_logs cpu (log ∷ logs) all = by_end cpu log.end (status_of_logs (cpu + 1) logs) all.0
     (by_logs (cpu + 1) logs all.1)
 
-found_of_texts : (old new : StoreSeen) (command : Option Named) (found : Finding)
+found_of_texts : (old new : StoreSeen) (command : Option Named) (found : CommandResult)
     → IsFound command old new found → IsOfTexts (status_of found)
 found_of_texts old new None finding.NoCommand h = tt
 found_of_texts old new None finding.Unread h = absurd h
@@ -133,7 +133,7 @@ found_of_texts old new (Some named) (finding.Sent setup sending) h =
     by_end 0 sending.end statuses.Fine (end_of_capture h.0.sending_is.bytes sending.end
     h.0.sending_is.capture.damage) tt
 
-found_ends : (old new : StoreSeen) (command : Option Named) (found : Finding)
+found_ends : (old new : StoreSeen) (command : Option Named) (found : CommandResult)
     → IsFound command old new found
     → IfSome (report_in found) (λ report. AllByRecursion (λ log. IsOfCapture log.end) report.cpus)
 found_ends old new None finding.NoCommand h = tt

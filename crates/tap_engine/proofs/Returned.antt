@@ -14,8 +14,8 @@ use Rattle.tap_engine.specs.Findings.{IsFound}
 use Rattle.tap_engine.specs.Headline.{GivenFor}
 use Rattle.tap_running.specs.Texts.{CantReadNext}
 use Rattle.tap_engine.specs.Jobs.{CantReadText, HasBadText}
-use Rattle.tap_engine.specs.declared.findings.Finding.{Finding}
-use Rattle.tap_engine.specs.declared.findings.Finding.TheVariants as finding
+use Rattle.tap_engine.specs.declared.findings.CommandResult.{CommandResult}
+use Rattle.tap_engine.specs.declared.findings.CommandResult.TheVariants as finding
 use Rattle.tap_running.proofs.TextOrder.{next_closed, read_closed}
 
 unread_closed : (old new : StoreSeen) (named : Named) → CantReadText old new named
@@ -44,7 +44,7 @@ given_closed Capture before after cpus bytes ends h = none_open before after _ h
 given_closed Forward before after cpus bytes ends h = none_open before after _ h.took
 given_closed Send before after cpus bytes ends h = absurd h
 
-pub closed_of : (command : Option Named) (old new : StoreSeen) (found : Finding)
+pub closed_of : (command : Option Named) (old new : StoreSeen) (found : CommandResult)
     → IsFound command old new found → NoneOpen old.sources new.sources
 closed_of None old new finding.NoCommand h = read_closed old new _ h
 closed_of None old new finding.Unread h = absurd h

@@ -30,7 +30,7 @@ use Rattle.tap_engine.specs.Jobs.{IsLoaded, IsRead, LinesFor, lines_for}
 use Rattle.tap_engine.specs.inside.Loads.{ReadsOne}
 use Rattle.tap_engine.specs.Names.{filter_for, first_file, read_last, ticks_for}
 use Rattle.tap_engine.specs.Sendings.{IsSending}
-use Rattle.tap_engine.specs.declared.findings.Finding.TheVariants as finding
+use Rattle.tap_engine.specs.declared.findings.CommandResult.TheVariants as finding
 use Rattle.tap_engine.specs.declared.sent_captures.Sending.{Sending}
 use Rattle.tap_running.proofs.Counted.{counts_later}
 use Rattle.tap_running.proofs.Stores.{held_same}

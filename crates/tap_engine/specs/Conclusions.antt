@@ -15,14 +15,14 @@ use Rattle.tap_running.specs.Prints.{IsLastLine, IsPrinted, PrintedSome}
 use Rattle.tap_engine.specs.Commands.{Named}
 use Rattle.tap_engine.specs.Findings.{IsFound, files_of, lines_of, names_of, report_in, status_of}
 use Rattle.tap_engine.specs.Jobs.{IsAsked}
-use Rattle.tap_engine.specs.declared.findings.Finding.{Finding}
+use Rattle.tap_engine.specs.declared.findings.CommandResult.{CommandResult}
 use Rattle.tap_engine.specs.declared.outcomes.Outcome.{Outcome}
 use Rattle.tap_engine.specs.declared.outcomes.Status.{Status}
 use Rattle.tap_engine.specs.declared.outcomes.Status.TheVariants.{WriteFault}
 use Rattle.tap_running.specs.Prints.{IsLastLine, IsPrinted, PrintedSome}
 
 -- all lines were printed and all files saved
-pub record IsDone (finding : Finding) (status : Status) (old new : StoreSeen)
+pub record IsDone (finding : CommandResult) (status : Status) (old new : StoreSeen)
     (before after : SinkSeen) : Type 0 where
   pub status_is : status ≡ status_of finding
   pub lines : Appends before.written after.written (lines_of finding)
@@ -32,7 +32,7 @@ pub record IsDone (finding : Finding) (status : Status) (old new : StoreSeen)
   pub prints : after.faults ≡ before.faults
 
 -- printing or saving failed: at most as many files fail to hold their bytes as saves failed
-pub record IsFailed (finding : Finding) (status : Status) (old new : StoreSeen)
+pub record IsFailed (finding : CommandResult) (status : Status) (old new : StoreSeen)
     (before after : SinkSeen) : Type 0 where
   pub status_is : status ≡ WriteFault
   pub printed : Bool
@@ -44,7 +44,7 @@ pub record IsFailed (finding : Finding) (status : Status) (old new : StoreSeen)
 
 -- the report is that of the finding, and nothing of the store changes except its files and the
 -- count of failed saves
-pub record Concludes (finding : Finding) (outcome : Outcome) (old new : StoreSeen)
+pub record Concludes (finding : CommandResult) (outcome : Outcome) (old new : StoreSeen)
     (before after : SinkSeen) : Type 0 where
   pub report : outcome.report ≡ report_in finding
   pub touches : Touches old new (names_of finding)
@@ -59,7 +59,7 @@ pub record Tells (command : Option Named) (outcome : Outcome) (old new : StoreSe
   pub reads : OnlyReads old read
   -- each source that was opened is closed
   pub closed : NoneOpen old.sources read.sources
-  pub finding : Finding
+  pub finding : CommandResult
   pub found : IsFound command old read finding
   pub concludes : Concludes finding outcome read new before after
 
@@ -73,7 +73,7 @@ pub record IsCut (command : Option Named) (old new : StoreSeen) : Type 0 where
 
 -- what a call found while it only read the store, or that memory ran out
 pub record IsSearched (command : Option Named) (old new : StoreSeen)
-    (answer : Result Finding Memory) : Type 0 where
+    (answer : Result CommandResult Memory) : Type 0 where
   pub reads : OnlyReads old new
   pub found : IfOk answer (IsFound command old new)
   pub cut : OnErr answer (IsCut command old new)
@@ -84,7 +84,7 @@ pub record IsCutShort (command : Option Named) (old new : StoreSeen) (before aft
     : Type 0 where
   pub read : StoreSeen
   pub reads : OnlyReads old read
-  pub finding : Finding
+  pub finding : CommandResult
   pub found : IsFound command old read finding
   pub touches : Touches read new (names_of finding)
   pub saved : SavedSome read new (files_of finding)

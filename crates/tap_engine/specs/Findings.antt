@@ -16,8 +16,8 @@ use Rattle.tap_outside.specs.Seen.{StoreSeen}
 use Rattle.tap_printing.specs.Lines.{send_lines, summary_of}
 use Rattle.tap_printing.specs.Refusals.{setup_refusal, text_refusal}
 use Rattle.tap_reading.specs.Fronts.{ReadTexts}
-use Rattle.tap_reading.specs.declared.stops.Stop.{Stop}
-use Rattle.tap_reading.specs.declared.stops.Stop.TheVariants as stops
+use Rattle.tap_reading.specs.declared.stops.LoadError.{LoadError}
+use Rattle.tap_reading.specs.declared.stops.LoadError.TheVariants as stops
 use Rattle.run_reports.specs.Members.{AreShort}
 use Rattle.tap_saving.specs.Files.{CanBeOutput, File, files_from, names_from, sent_file, sent_name}
 use Rattle.tp_layout.specs.Requests.{size_of}
@@ -28,8 +28,8 @@ use Rattle.tap_running.specs.Counts.{IsCounted}
 use Rattle.tap_engine.specs.Headline.{IsHeadline}
 use Rattle.tap_engine.specs.Jobs.{CantReadText, HasBadSetup, HasBadText, IsChecked}
 use Rattle.tap_engine.specs.Sendings.{IsSent}
-use Rattle.tap_engine.specs.declared.findings.Finding.{Finding}
-use Rattle.tap_engine.specs.declared.findings.Finding.TheVariants as finding
+use Rattle.tap_engine.specs.declared.findings.CommandResult.{CommandResult}
+use Rattle.tap_engine.specs.declared.findings.CommandResult.TheVariants as finding
 use Rattle.tap_engine.specs.declared.outcomes.Status.{Status}
 use Rattle.tap_engine.specs.declared.outcomes.Status.TheVariants as statuses
 use Rattle.tap_running.specs.Captures.{fault_at}
@@ -64,7 +64,7 @@ faults_in (log ∷ logs) = fault_at log.end + faults_in logs
 -- A command finds this in a store; each source that it opened is closed. As many captures end with
 -- a fault as reading failed, or fewer. Where no text can't be read and no capture ends with a fault
 -- no read failed.
-abbrev pub IsFound : Option Named → StoreSeen → StoreSeen → Finding → Type 0
+abbrev pub IsFound : Option Named → StoreSeen → StoreSeen → CommandResult → Type 0
 IsFound None old new finding.NoCommand = ReadTexts old new []
 IsFound None old new found = ⊥
 IsFound (Some named) old new finding.NoCommand = ⊥
@@ -82,12 +82,12 @@ IsFound (Some named) old new (finding.Sent setup sending) =
     × IsCounted old new (fault_at sending.end)
 
 -- what is found if a text stops the command
-abbrev pub finding_of : Result Finding Stop → Result Finding Memory
-finding_of (Ok found) = Ok found
-finding_of (Err stops.Unread) = Ok finding.Unread
-finding_of (Err (stops.Setup error)) = Ok (finding.BadSetup error)
-finding_of (Err (stops.Text error)) = Ok (finding.BadText error)
-finding_of (Err stops.Memory) = Err (record {})
+abbrev pub command_result_of : Result CommandResult LoadError → Result CommandResult Memory
+command_result_of (Ok found) = Ok found
+command_result_of (Err stops.Unread) = Ok finding.Unread
+command_result_of (Err (stops.Setup error)) = Ok (finding.BadSetup error)
+command_result_of (Err (stops.Text error)) = Ok (finding.BadText error)
+command_result_of (Err stops.Memory) = Err (record {})
 
 -- ---- what follows from it
 
@@ -103,7 +103,7 @@ status_of_logs cpu [] = statuses.Fine
 status_of_logs cpu (log ∷ logs) = status_by_end cpu log.end (status_of_logs (cpu + 1) logs)
 
 -- the status
-abbrev pub status_of : Finding → Status
+abbrev pub status_of : CommandResult → Status
 status_of finding.NoCommand = statuses.Usage
 status_of finding.Unread = statuses.ReadFault
 status_of (finding.BadSetup error) = statuses.Setup error
@@ -113,12 +113,12 @@ status_of (finding.Ran rings setup report forwards) = status_of_logs 0 report.cp
 status_of (finding.Sent setup sending) = status_by_end 0 sending.end statuses.Fine
 
 -- the report
-abbrev pub report_in : Finding → Option RunReport
+abbrev pub report_in : CommandResult → Option RunReport
 report_in (finding.Ran rings setup report forwards) = Some report
 report_in found = None
 
 -- the printed lines
-abbrev pub lines_of : Finding → List ℕ
+abbrev pub lines_of : CommandResult → List ℕ
 lines_of finding.NoCommand =
     codes "usage: ringtap check|replay|capture|send|make|forward|replay2 CONF [SCHED]\n"
 lines_of finding.Unread = codes "read fault\n"
@@ -130,12 +130,12 @@ lines_of (finding.Ran rings setup report forwards) =
 lines_of (finding.Sent setup sending) = send_lines sending.frames sending.end sending.sent
 
 -- the files, and their names
-abbrev pub files_of : Finding → List File
+abbrev pub files_of : CommandResult → List File
 files_of (finding.Ran rings setup report forwards) = files_from setup forwards 0 report.members
 files_of (finding.Sent setup sending) = sent_file setup sending.sent.packets ∷ []
 files_of found = []
 
-abbrev pub names_of : Finding → List (List ℕ)
+abbrev pub names_of : CommandResult → List (List ℕ)
 names_of (finding.Ran rings setup report forwards) =
     names_from setup (is_some forwards) 0 (length report.members)
 names_of (finding.Sent setup sending) = sent_name setup ∷ []
@@ -149,7 +149,7 @@ pub record IsSmall (report : RunReport) : Type 0 where
   pub members : length report.members ≤ 8
   pub packets : AreShort report.members
 
-abbrev pub IsReady : Finding → Type 0
+abbrev pub IsReady : CommandResult → Type 0
 IsReady (finding.Ran rings setup report forwards) =
     IsSmall report × IfSome forwards (λ forwards. All CanBeOutput forwards.sent)
 IsReady (finding.Sent setup sending) = CanBeOutput sending.sent.packets

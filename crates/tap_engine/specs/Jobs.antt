@@ -20,8 +20,8 @@ use Rattle.tap_outside.specs.Contents.{Contents}
 use Rattle.tap_outside.specs.Seen.{Entry, StoreSeen}
 use Rattle.tap_reading.specs.Fronts.{CantRead, RanOut, ReadTexts, text_entry}
 use Rattle.tap_reading.specs.Readers.{Refuses, Says, schedule_for, setup_for}
-use Rattle.tap_reading.specs.declared.stops.Stop.{Stop}
-use Rattle.tap_reading.specs.declared.stops.Stop.TheVariants as stops
+use Rattle.tap_reading.specs.declared.stops.LoadError.{LoadError}
+use Rattle.tap_reading.specs.declared.stops.LoadError.TheVariants as stops
 use Rattle.tap_running.specs.Texts.{CantReadNext, HasProgram}
 use Rattle.tap_engine.specs.Commands.{Named, has_schedule}
 use Rattle.tap_engine.specs.Given.{Texts, all_texts, first_texts}
@@ -184,7 +184,7 @@ pub record IsRead (old new : StoreSeen) (named : Named) (texts : Texts) (job : J
 
 -- a text can't be read, or is refused; or memory ran out: before all texts were accepted no read
 -- had failed, and each source that was opened is closed
-abbrev pub Stops : StoreSeen → StoreSeen → Named → Stop → Type 0
+abbrev pub Stops : StoreSeen → StoreSeen → Named → LoadError → Type 0
 Stops old new named stops.Unread = CantReadText old new named
 Stops old new named (stops.Setup error) = HasBadSetup old new named error
 Stops old new named (stops.Text error) = HasBadText old new named error

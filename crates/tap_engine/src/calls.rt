@@ -15,7 +15,7 @@ ghost use Rattle.tap_engine.specs.Names.{AreMeantToRead, AreMeantToSave};
 
 use crate::command_runs::{find, find_plain};
 use crate::conclusion::conclude;
-use crate::findings::Finding;
+use crate::findings::CommandResult;
 use crate::{Outcome, Status};
 use cpu_feeders::Gate;
 use frame_view::Memory;
@@ -140,7 +140,7 @@ pub fn run_plain<S: Store, O: Sink>(
 /// Ends a command: saves and prints what was found, or prints that memory ran out.
 fn finish<S: Store, O: Sink>(
     alloc: Global,
-    found: Result<Finding, Memory>,
+    found: Result<CommandResult, Memory>,
     store: &mut S,
     out: &mut O,
 ) -> Outcome
@@ -160,7 +160,7 @@ fn finish<S: Store, O: Sink>(
 /// Saves and prints what was found, as far as memory suffices.
 fn attempt<S: Store, O: Sink>(
     alloc: Global,
-    found: Result<Finding, Memory>,
+    found: Result<CommandResult, Memory>,
     store: &mut S,
     out: &mut O,
 ) -> Result<Outcome, Memory>

@@ -7,13 +7,13 @@ ghost use Rattle.tap_engine.specs.Commands.{command_of, is_threaded, named_by, p
 ghost use Rattle.tap_engine.specs.Commands.{rings_of};
 ghost use Rattle.tap_engine.specs.Conclusions.{IsSearched};
 ghost use Rattle.tap_engine.specs.inside.Dones.{finding_by};
-ghost use Rattle.tap_engine.specs.Findings.{IsFound, IsReady, finding_of};
+ghost use Rattle.tap_engine.specs.Findings.{IsFound, IsReady, command_result_of};
 ghost use Rattle.tap_engine.specs.Given.{Texts};
 ghost use Rattle.tap_engine.specs.Jobs.{HasJob, IsLoaded, Stops};
 ghost use Rattle.tap_engine.specs.Names.{AreMeantToRead};
 
 use crate::commands::{Asked, command_of, is_threaded, plain_command, rings_of, sends};
-use crate::findings::Finding;
+use crate::findings::CommandResult;
 use crate::jobs::{load_job, load_moments};
 use crate::replay_runs::{replay_made, replay_scheduled};
 use crate::sent_captures::{Sending, send_capture};
@@ -26,7 +26,7 @@ use std::alloc::Global;
 use std::sync::Wait;
 use std::thread::Threads;
 use tap_outside::{Store, Word};
-use tap_reading::Stop;
+use tap_reading::LoadError;
 
 /// Finds what the words ask for, on threads if they are `capture CONF` or `forward CONF`. The store
 /// is only read.
@@ -36,19 +36,19 @@ pub(crate) fn find<S: Store, G: Gate + Sync, R: Threads + Wait + Sync>(
     words: &[Word],
     store: &mut S,
     gate: &G,
-) -> Result<Finding, Memory>
+) -> Result<CommandResult, Memory>
     requires reads { AreMeantToRead (command_of words.now) (S.seen store.old) }
     ensures found { IsSearched (command_of words.now) (S.seen store.old) (S.seen store.new)
         result }
     ensures ready { IfOk result IsReady }
 {
     let Some(asked) = command_of(words) else {
-        return Ok(Finding::NoCommand);
+        return Ok(CommandResult::NoCommand);
     };
     if is_threaded(asked.command) {
-        finding_of(run_threads(rt, alloc, asked, store, gate))
+        command_result_of(run_threads(rt, alloc, asked, store, gate))
     } else {
-        finding_of(carry_out(alloc, asked, store))
+        command_result_of(carry_out(alloc, asked, store))
     }
 }
 
@@ -57,33 +57,37 @@ pub(crate) fn find_plain<S: Store>(
     alloc: Global,
     words: &[Word],
     store: &mut S,
-) -> Result<Finding, Memory>
+) -> Result<CommandResult, Memory>
     requires reads { AreMeantToRead (plain_command words.now) (S.seen store.old) }
     ensures found { IsSearched (plain_command words.now) (S.seen store.old) (S.seen store.new)
         result }
     ensures ready { IfOk result IsReady }
 {
     let Some(asked) = plain_command(words) else {
-        return Ok(Finding::NoCommand);
+        return Ok(CommandResult::NoCommand);
     };
-    finding_of(carry_out(alloc, asked, store))
+    command_result_of(carry_out(alloc, asked, store))
 }
 
 /// What is found if a text stops the command.
-fn finding_of(answer: Result<Finding, Stop>) -> Result<Finding, Memory>
-    ensures { result ≡ finding_of answer }
+fn command_result_of(answer: Result<CommandResult, LoadError>) -> Result<CommandResult, Memory>
+    ensures { result ≡ command_result_of answer }
 {
     match answer {
         Ok(finding) => Ok(finding),
-        Err(Stop::Unread) => Ok(Finding::Unread),
-        Err(Stop::Setup(error)) => Ok(Finding::BadSetup(error)),
-        Err(Stop::Text(error)) => Ok(Finding::BadText(error)),
-        Err(Stop::Memory) => Err(Memory),
+        Err(LoadError::Unread) => Ok(CommandResult::Unread),
+        Err(LoadError::Setup(error)) => Ok(CommandResult::BadSetup(error)),
+        Err(LoadError::Text(error)) => Ok(CommandResult::BadText(error)),
+        Err(LoadError::Memory) => Err(Memory),
     }
 }
 
 /// Reads the texts and the captures of a command, and carries out its run on one thread.
-fn carry_out<S: Store>(alloc: Global, asked: Asked<'_>, store: &mut S) -> Result<Finding, Stop>
+fn carry_out<S: Store>(
+    alloc: Global,
+    asked: Asked<'_>,
+    store: &mut S,
+) -> Result<CommandResult, LoadError>
     requires plain { is_threaded asked.command ≡ false }
     requires reads { AreMeantToRead
         (Some (named_by asked.command asked.setup.now asked.schedule.now)) (S.seen store.old) }
@@ -113,19 +117,24 @@ enum Done {
 
 impl Done {
     /// What that is, with the setup, as a finding.
-    fn into_finding(self, rings: RingKind, setup: Setup) -> Finding
+    fn into_finding(self, rings: RingKind, setup: Setup) -> CommandResult
         ensures { result ≡ finding_by rings setup self }
     {
         match self {
-            Done::Checked => Finding::Checked,
-            Done::Ran(report) => Finding::Ran(rings, setup, report, None),
-            Done::Sent(sending) => Finding::Sent(setup, sending),
+            Done::Checked => CommandResult::Checked,
+            Done::Ran(report) => CommandResult::Ran(rings, setup, report, None),
+            Done::Sent(sending) => CommandResult::Sent(setup, sending),
         }
     }
 }
 
 /// Carries out a command on one thread, after its setup and its filter.
-fn work<S: Store>(alloc: Global, asked: Asked<'_>, job: &Job, store: &mut S) -> Result<Done, Stop>
+fn work<S: Store>(
+    alloc: Global,
+    asked: Asked<'_>,
+    job: &Job,
+    store: &mut S,
+) -> Result<Done, LoadError>
     requires plain { is_threaded asked.command ≡ false }
     requires job { (texts : Texts) × HasJob (S.seen store.old).held
         (named_by asked.command asked.setup.now asked.schedule.now) texts job.now }
@@ -172,7 +181,7 @@ fn run_threads<S: Store, G: Gate + Sync, R: Threads + Wait + Sync>(
     asked: Asked<'_>,
     store: &mut S,
     gate: &G,
-) -> Result<Finding, Stop>
+) -> Result<CommandResult, LoadError>
     requires threaded { is_threaded asked.command ≡ true }
     requires reads { AreMeantToRead
         (Some (named_by asked.command asked.setup.now asked.schedule.now)) (S.seen store.old) }
@@ -187,5 +196,5 @@ fn run_threads<S: Store, G: Gate + Sync, R: Threads + Wait + Sync>(
     let job = load_job(alloc, asked, store)?;
     let sends = sends(asked.command);
     let ThreadedRun { report, forwards } = run_timed(rt, alloc, &job, sends, store, gate)?;
-    Ok(Finding::Ran(RingKind::Blocks, job.setup, report, forwards))
+    Ok(CommandResult::Ran(RingKind::Blocks, job.setup, report, forwards))
 }

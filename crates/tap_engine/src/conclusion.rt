@@ -6,7 +6,7 @@ ghost use Rattle.tap_engine.specs.Conclusions.{Concludes, IsDone, IsFailed};
 ghost use Rattle.tap_running.specs.Prints.{IsPrinted, PrintedSome};
 ghost use Rattle.tap_engine.specs.Findings.{IsReady, files_of, lines_of, names_of};
 
-use crate::findings::Finding;
+use crate::findings::CommandResult;
 use crate::{Outcome, Status};
 use frame_view::Memory;
 use std::alloc::Global;
@@ -17,7 +17,7 @@ use tap_saving::{save_members, save_sent};
 /// Saves the files of a finding and prints its lines. Each is tried even if the other fails.
 pub(crate) fn conclude<S: Store, O: Sink>(
     alloc: Global,
-    finding: Finding,
+    finding: CommandResult,
     store: &mut S,
     out: &mut O,
 ) -> Result<Outcome, Memory>
@@ -43,7 +43,7 @@ pub(crate) fn conclude<S: Store, O: Sink>(
 /// with.
 fn save_and_print<S: Store, O: Sink>(
     alloc: Global,
-    finding: &Finding,
+    finding: &CommandResult,
     store: &mut S,
     out: &mut O,
 ) -> Result<Status, Memory>
@@ -68,7 +68,7 @@ fn save_and_print<S: Store, O: Sink>(
 }
 
 /// Saves the files of a finding, and returns whether all were saved.
-fn save<S: Store>(alloc: Global, finding: &Finding, store: &mut S) -> Result<bool, Memory>
+fn save<S: Store>(alloc: Global, finding: &CommandResult, store: &mut S) -> Result<bool, Memory>
     requires ready { IsReady finding.now }
     requires meant { AllByRecursion (λ name. IsTrue ((S.seen store.old).to_save name))
         (names_of finding.now) }
@@ -79,11 +79,16 @@ fn save<S: Store>(alloc: Global, finding: &Finding, store: &mut S) -> Result<boo
         (SavedSome (S.seen store.old) (S.seen store.new) (files_of finding.now)) }
 {
     match finding {
-        Finding::Ran(_, setup, report, forwards) => {
+        CommandResult::Ran(_, setup, report, forwards) => {
             let members = report.members.as_slice();
             save_members(alloc, setup, members, forwards.as_ref(), store)
         }
-        Finding::Sent(setup, sending) => save_sent(alloc, setup, &sending.sent.packets, store),
+        CommandResult::Sent(setup, sending) => save_sent(
+            alloc,
+            setup,
+            &sending.sent.packets,
+            store,
+        ),
         _ => Ok(true),
     }
 }

@@ -15,7 +15,7 @@ use tap_printing::{send_lines, setup_refusal, summary, text_refusal};
 
 /// What a command finds, from what the outside gives.
 #[derive(Drop)]
-pub(crate) enum Finding {
+pub(crate) enum CommandResult {
     /// The words aren't a command.
     NoCommand,
     /// A text can't be read.
@@ -33,25 +33,25 @@ pub(crate) enum Finding {
     Sent(Setup, Sending),
 }
 
-impl Finding {
+impl CommandResult {
     /// The lines that it prints.
     pub(crate) fn lines(&self, alloc: Global) -> Result<ByteList, Memory>
         ensures { IfOk result (λ lines. lines ≡ lines_of self.now) }
     {
         let line = match self {
-            Finding::NoCommand => {
+            CommandResult::NoCommand => {
                 format!(in alloc;
                     "usage: ringtap check|replay|capture|send|make|forward|replay2 CONF [SCHED]\n"
                 )?
             }
-            Finding::Unread => format!(in alloc; "read fault\n")?,
-            Finding::BadSetup(error) => setup_refusal(alloc, error)?,
-            Finding::BadText(error) => text_refusal(alloc, error)?,
-            Finding::Checked => format!(in alloc; "ok\n")?,
-            Finding::Ran(rings, setup, report, forwards) => {
+            CommandResult::Unread => format!(in alloc; "read fault\n")?,
+            CommandResult::BadSetup(error) => setup_refusal(alloc, error)?,
+            CommandResult::BadText(error) => text_refusal(alloc, error)?,
+            CommandResult::Checked => format!(in alloc; "ok\n")?,
+            CommandResult::Ran(rings, setup, report, forwards) => {
                 return summary(alloc, *rings, setup.shape.tov(), report, forwards.as_ref());
             }
-            Finding::Sent(_, sending) => {
+            CommandResult::Sent(_, sending) => {
                 send_lines(alloc, sending.frames, sending.end, &sending.sent)?
             }
         };
@@ -64,13 +64,13 @@ impl Finding {
         ensures { result ≡ status_of self.now }
     {
         match self {
-            Finding::NoCommand => Status::Usage,
-            Finding::Unread => Status::ReadFault,
-            Finding::BadSetup(error) => Status::Setup(*error),
-            Finding::BadText(error) => Status::Text(*error),
-            Finding::Checked => Status::Fine,
-            Finding::Ran(_, _, report, _) => status_of_ends(report.cpus.as_slice()),
-            Finding::Sent(_, sending) => status_with_end(0, sending.end, Status::Fine),
+            CommandResult::NoCommand => Status::Usage,
+            CommandResult::Unread => Status::ReadFault,
+            CommandResult::BadSetup(error) => Status::Setup(*error),
+            CommandResult::BadText(error) => Status::Text(*error),
+            CommandResult::Checked => Status::Fine,
+            CommandResult::Ran(_, _, report, _) => status_of_ends(report.cpus.as_slice()),
+            CommandResult::Sent(_, sending) => status_with_end(0, sending.end, Status::Fine),
         }
     }
 
@@ -79,7 +79,7 @@ impl Finding {
         ensures { result ≡ report_in self }
     {
         match self {
-            Finding::Ran(_, _, report, _) => Some(report),
+            CommandResult::Ran(_, _, report, _) => Some(report),
             _ => None,
         }
     }

@@ -22,7 +22,7 @@ use frame_view::MomentList;
 use setup_text::{Command, Job, Schedule, Setup, a_setup_with_cpus_can_be_run};
 use std::alloc::Global;
 use tap_outside::{Store, Word};
-use tap_reading::{Stop, load_filter, load_schedule, load_setup, load_ticks};
+use tap_reading::{LoadError, load_filter, load_schedule, load_setup, load_ticks};
 
 /// Reads the setup of a command, and the filter that it names, if the command reads one.
 #[tactic(auto, using(crate::proofs::Found::at_setup))]
@@ -30,7 +30,7 @@ pub(crate) fn load_job<S: Store>(
     alloc: Global,
     asked: Asked<'_>,
     store: &mut S,
-) -> Result<Job, Stop>
+) -> Result<Job, LoadError>
     requires { AreMeantToRead
         (Some (named_by asked.command asked.setup.now asked.schedule.now)) (S.seen store.old) }
     ensures loaded { IfOk result (λ job. (texts : Texts)
@@ -70,7 +70,7 @@ fn load_program<S: Store>(
     alloc: Global,
     store: &mut S,
     filter: Option<&Word>,
-) -> Result<Option<Program>, Stop>
+) -> Result<Option<Program>, LoadError>
     requires { IfSome filter (λ name. IsTrue ((S.seen store.old).to_read name.now)) }
     ensures program { IfOk result (λ program. ReadsOne (S.seen store.old) (S.seen store.new)
         (option_map (λ word. word.now) filter.entry)
@@ -99,7 +99,7 @@ pub(crate) fn load_moments<S: Store>(
     alloc: Global,
     store: &mut S,
     ticks: &Option<Word>,
-) -> Result<MomentList, Stop>
+) -> Result<MomentList, LoadError>
     requires { IfSome ticks.now (λ name. IsTrue ((S.seen store.old).to_read name)) }
     ensures ticks { IfOk result (λ moments. ReadsOne (S.seen store.old) (S.seen store.new)
         ticks.now (λ text. HasTicks (S.seen store.old).held ticks.now text moments)) }
@@ -123,7 +123,7 @@ pub(crate) fn load_lines<S: Store>(
     store: &mut S,
     name: &[u8],
     setup: &Setup,
-) -> Result<Schedule, Stop>
+) -> Result<Schedule, LoadError>
     requires name { IsTrue ((S.seen store.old).to_read name.now) }
     requires few { length setup.now.cpus ≤ 8 }
     ensures schedule { IfOk result (λ lines.

@@ -25,7 +25,7 @@ use run_reports::{Ran, RingKind, RunReport};
 use setup_text::{Command, Job, Schedule};
 use std::alloc::Global;
 use tap_outside::{Source, Store};
-use tap_reading::Stop;
+use tap_reading::LoadError;
 use tap_replay::replay;
 use v2_replay::replay_v2;
 
@@ -37,7 +37,7 @@ pub(crate) fn replay_scheduled<S: Store>(
     job: &Job,
     name: &[u8],
     store: &mut S,
-) -> Result<RunReport, Stop>
+) -> Result<RunReport, LoadError>
     requires scheduled { has_schedule command ≡ true }
     requires setup { IsSetup job.now.setup }
     requires ring { request_fault command job.now.setup.request ≡ None }

@@ -23,7 +23,7 @@ use std::sync::Wait;
 use std::thread::Threads;
 use tap_forward::{ForwardRan, forward_workers};
 use tap_outside::{Source, Store};
-use tap_reading::Stop;
+use tap_reading::LoadError;
 
 /// The result of a run on threads.
 #[derive(Drop)]
@@ -43,7 +43,7 @@ pub(crate) fn run_timed<S: Store, G: Gate + Sync, R: Threads + Wait + Sync>(
     sends: bool,
     store: &mut S,
     gate: &G,
-) -> Result<ThreadedRun, Stop>
+) -> Result<ThreadedRun, LoadError>
     requires setup { IsSetup job.now.setup }
     requires ticks { IfSome job.now.setup.ticks
         (λ name. IsTrue ((S.seen store.old).to_read name)) }

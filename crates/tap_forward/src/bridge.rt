@@ -35,7 +35,7 @@ pub struct ForwardRan<S: Drop> {
 
 /// What forwarders leave: that of each in its place.
 #[derive(Drop)]
-struct Ended {
+struct ForwardersEnd {
     /// What a reader of the same blocks returns.
     outputs: Vec<Outputs>,
     /// The packets that were sent.
@@ -83,7 +83,7 @@ fn forwarders_of(
 }
 
 /// Ends forwarders, and returns what they leave.
-fn end_all(alloc: Global, forwarders: Vec<Forwarder>) -> Result<Ended, Memory>
+fn end_all(alloc: Global, forwarders: Vec<Forwarder>) -> Result<ForwardersEnd, Memory>
     ensures outputs { IfOk result (λ ended. ended.outputs.items
         ≡ map (λ forwarder. (forwarded_of forwarder).outputs) forwarders.items) }
     ensures sent { IfOk result (λ ended. ended.sent.items
@@ -91,7 +91,7 @@ fn end_all(alloc: Global, forwarders: Vec<Forwarder>) -> Result<Ended, Memory>
     ensures skipped { IfOk result (λ ended. ended.skipped.items
         ≡ map (λ forwarder. (forwarded_of forwarder).skipped) forwarders.items) }
 {
-    let mut ended = Ended {
+    let mut ended = ForwardersEnd {
         outputs: Vec::new(alloc),
         sent: Vec::new(alloc),
         skipped: Vec::new(alloc),

@@ -7,13 +7,10 @@ ghost use Rattle.frame_view.specs.declared.frames.Packet.{Packet as GivenPacket}
 ghost use Rattle.tp_layout.specs.Requests.{transmit_fault};
 ghost use Rattle.tx_ring.specs.Rings.{room_of};
 
-use frame_view::{Memory, Packet, Packets, retag};
+use frame_view::{LINK_HEADER, Memory, Packet, Packets, retag};
 use std::alloc::Global;
 use tp_layout::Shape;
 use tx_ring::{SendError, TxError, TxRing};
-
-/// The fewest bytes of a frame that is sent: an Ethernet header.
-const LEAST: usize = 14;
 
 /// A transmit ring, and the result for the packets that it was given.
 #[derive(Drop)]
@@ -124,7 +121,7 @@ impl Sender {
         ensures few { self.new.ring.placed ≤ self.old.ring.placed + 1 }
         ensures counted { self.new.skipped ≤ self.old.skipped + 1 }
     {
-        if frame.len() < LEAST {
+        if frame.len() < LINK_HEADER {
             self.skipped += 1;
             return Ok(());
         }

@@ -4,11 +4,12 @@ ghost use Rattle.tap_outside.specs.Counts.{counted};
 ghost use Rattle.tap_outside.specs.Outcomes.{OnFailed, OnMemory};
 ghost use Rattle.tap_outside.specs.Seen.{meant_store, no_sources, unread_file};
 
-use crate::pieces::{PIECE, write_each};
+use crate::pieces::write_each;
 use crate::source_log::SourceLog;
 use crate::system_calls::read_front;
 use crate::written_file::WrittenFile;
 use crate::{Failed, History, OutError, Pieces, Source, Store, write_whole};
+use frame_view::PIECE;
 use std::alloc::Global;
 use std::fs;
 use std::fs::OpenFile;

@@ -15,12 +15,9 @@ ghost use Rattle.tap_outside.specs.Stores.{fresh_store, seen_store, source_of};
 use crate::memory_files::{MemFile, file_named, put_file};
 use crate::source_log::SourceLog;
 use crate::{MemSource, OutError, Store};
-use frame_view::{Memory, MomentList};
+use frame_view::{Memory, MomentList, PIECE};
 use std::alloc::Global;
 use std::marker::Model;
-
-/// The most bytes that one read of a saved file gives.
-pub(crate) const SAVED_PIECE: usize = 65_536;
 
 /// A store that keeps its files in memory. Contracts see its files, the numbers of the fetches and
 /// of the saves that fail, how many of each there were and failed, and the sources that were opened
@@ -190,7 +187,7 @@ impl Store for MemStore {
         ensures fails { IsErrOf result OutError.Failed ↔
             Contains self.old.failing_saves (counted self.old.saves) }
         ensures puts { OnOk result (PutsFile self.old.files self.new.files
-            (file_with name.now bytes.now SAVED_PIECE [])) }
+            (file_with name.now bytes.now PIECE [])) }
         ensures ok { OnOk result (self.new ≡ after_save self.old self.new.files) }
         ensures failed { OnFailed result (self.new ≡ after_failed_save self.old) }
         ensures memory { OnMemory result (self.new ≡ self.old) }
@@ -208,7 +205,7 @@ impl Store for MemStore {
             return Err(OutError::Failed);
         }
         let failing = MomentList::new(self.alloc);
-        self.put(name, bytes, SAVED_PIECE, failing)?;
+        self.put(name, bytes, PIECE, failing)?;
         self.saves = number;
         Ok(())
     }

@@ -5,11 +5,8 @@ ghost use Rattle.std.specs.Io.KnownBytes.{Appends};
 ghost use Rattle.std.specs.Vec.{vec_capacity};
 
 use crate::{OutError, Sink, write_whole};
-use frame_view::Memory;
+use frame_view::{Memory, PIECE};
 use std::alloc::Global;
-
-/// The most bytes of a piece: this project's own choice.
-pub(crate) const PIECE: usize = 65_536;
 
 /// Bytes that are made as they are taken, from the front, so that all of them need not be in memory
 /// at once. Contracts see those that are left.

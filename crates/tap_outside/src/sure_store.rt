@@ -8,10 +8,9 @@ ghost use Rattle.tap_outside.specs.Seen.{OnlySaves, meant_store, no_sources, unr
 ghost use Rattle.tap_outside.specs.Sources.{seen_sure_source, unread_sure_source};
 ghost use Rattle.tap_outside.specs.Stores.{seen_sure_store};
 
-use crate::memory_store::SAVED_PIECE;
 use crate::source_log::SourceLog;
 use crate::{Failed, History, MemStore, OutError, Source, Store};
-use frame_view::{ByteList, Memory, MomentList};
+use frame_view::{ByteList, Memory, MomentList, PIECE};
 use std::alloc::Global;
 use std::marker::Model;
 
@@ -123,7 +122,7 @@ impl SureStore {
         ensures err { OnErr result (self.new ≡ self.old) }
     {
         let failing = MomentList::new(self.alloc);
-        self.files.put(name, bytes, SAVED_PIECE, failing)
+        self.files.put(name, bytes, PIECE, failing)
     }
 }
 

@@ -13,8 +13,8 @@ use Rattle.setup_text.specs.declared.text_error.TextError.{TextError}
 use Rattle.tap_outside.specs.Contents.{Contents}
 use Rattle.tap_outside.specs.Seen.{Entry, StoreSeen}
 use Rattle.tap_reading.specs.Fronts.{CantRead, IsTextOf, RanOut, ReadTexts, text_entry}
-use Rattle.tap_reading.specs.declared.stops.Stop.{Stop}
-use Rattle.tap_reading.specs.declared.stops.Stop.TheVariants as stops
+use Rattle.tap_reading.specs.declared.stops.LoadError.{LoadError}
+use Rattle.tap_reading.specs.declared.stops.LoadError.TheVariants as stops
 use Rattle.tap_reading.specs.declared.texts.Unread.{Unread}
 use Rattle.tap_reading.specs.declared.texts.Unread.TheVariants as unread
 
@@ -51,7 +51,7 @@ pub record Refuses {A E : Type 0} (reader : List ℕ → Result A E) (wanted : E
 
 -- why a setup isn't there, and the store after it: it can't be read, or no read failed and each
 -- source that was opened is closed
-abbrev pub StopsAtSetup : Command → StoreSeen → StoreSeen → List ℕ → Stop → Type 0
+abbrev pub StopsAtSetup : Command → StoreSeen → StoreSeen → List ℕ → LoadError → Type 0
 StopsAtSetup command old new name stops.Unread = CantRead old new name
 StopsAtSetup command old new name (stops.Setup error) =
     Refuses (setup_for command) is_setup_want [] old new name error
@@ -60,7 +60,7 @@ StopsAtSetup command old new name stops.Memory = RanOut old new
 
 -- the same for another text
 abbrev pub StopsAtText : {A : Type 0} → (List ℕ → Result A TextError)
-    → StoreSeen → StoreSeen → List ℕ → Stop → Type 0
+    → StoreSeen → StoreSeen → List ℕ → LoadError → Type 0
 StopsAtText reader old new name stops.Unread = CantRead old new name
 StopsAtText reader old new name (stops.Setup error) = ⊥
 StopsAtText reader old new name (stops.Text error) =
@@ -69,12 +69,12 @@ StopsAtText reader old new name stops.Memory = RanOut old new
 
 -- ---- how a fault ends a command
 
-abbrev pub stop_of_unread : Unread → Stop
+abbrev pub stop_of_unread : Unread → LoadError
 stop_of_unread unread.Failed = stops.Unread
 stop_of_unread unread.Memory = stops.Memory
 
-abbrev pub stop_of_setup : SetupError → Stop
+abbrev pub stop_of_setup : SetupError → LoadError
 stop_of_setup error = if is_setup_want error then stops.Memory else stops.Setup error
 
-abbrev pub stop_of_text : TextError → Stop
+abbrev pub stop_of_text : TextError → LoadError
 stop_of_text error = if is_text_want error then stops.Memory else stops.Text error

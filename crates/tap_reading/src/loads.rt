@@ -8,7 +8,7 @@ ghost use Rattle.tap_outside.specs.Seen.{OnlyReads};
 ghost use Rattle.tap_reading.specs.Readers.{ReadsAs, StopsAtSetup, StopsAtText, schedule_for};
 ghost use Rattle.tap_reading.specs.Readers.{setup_for};
 
-use crate::stops::Stop;
+use crate::stops::LoadError;
 use crate::texts::read_text;
 use bpf_filter::Program;
 use frame_view::MomentList;
@@ -22,7 +22,7 @@ pub fn load_setup<S: Store>(
     store: &mut S,
     name: &[u8],
     command: Command,
-) -> Result<Setup, Stop>
+) -> Result<Setup, LoadError>
     requires { IsTrue ((S.seen store.old).to_read name.now) }
     ensures setup { IfOk result (λ setup.
         ReadsAs (setup_for command) (S.seen store.old) (S.seen store.new) name.now (Ok setup)) }
@@ -37,7 +37,11 @@ pub fn load_setup<S: Store>(
 }
 
 /// Reads the filter of a name.
-pub fn load_filter<S: Store>(alloc: Global, store: &mut S, name: &[u8]) -> Result<Program, Stop>
+pub fn load_filter<S: Store>(
+    alloc: Global,
+    store: &mut S,
+    name: &[u8],
+) -> Result<Program, LoadError>
     requires { IsTrue ((S.seen store.old).to_read name.now) }
     ensures program { IfOk result (λ program.
         ReadsAs filter_of (S.seen store.old) (S.seen store.new) name.now (Ok program)) }
@@ -50,7 +54,11 @@ pub fn load_filter<S: Store>(alloc: Global, store: &mut S, name: &[u8]) -> Resul
 }
 
 /// Reads the moments of a name.
-pub fn load_ticks<S: Store>(alloc: Global, store: &mut S, name: &[u8]) -> Result<MomentList, Stop>
+pub fn load_ticks<S: Store>(
+    alloc: Global,
+    store: &mut S,
+    name: &[u8],
+) -> Result<MomentList, LoadError>
     requires { IsTrue ((S.seen store.old).to_read name.now) }
     ensures moments { IfOk result (λ moments.
         ReadsAs moments_of (S.seen store.old) (S.seen store.new) name.now (Ok moments)) }
@@ -70,7 +78,7 @@ pub fn load_schedule<S: Store>(
     name: &[u8],
     cpus: u32,
     members: u32,
-) -> Result<Schedule, Stop>
+) -> Result<Schedule, LoadError>
     requires { IsTrue ((S.seen store.old).to_read name.now) }
     ensures schedule { IfOk result (λ lines. ReadsAs (schedule_for cpus members)
         (S.seen store.old) (S.seen store.new) name.now (Ok lines)) }

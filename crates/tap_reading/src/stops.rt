@@ -10,7 +10,7 @@ use setup_text::{SetupError, SetupKind, TextError, TextKind};
 
 /// Why a command isn't carried out.
 #[derive(Clone, Copy, Debug, PartialEq, Eq)]
-pub enum Stop {
+pub enum LoadError {
     /// A text can't be read.
     Unread,
     /// The setup was read and is refused.
@@ -21,47 +21,47 @@ pub enum Stop {
     Memory,
 }
 
-impl From<Unread> for Stop {
+impl From<Unread> for LoadError {
     ghost from_gives = { λ unread stop. stop ≡ stop_of_unread unread };
 
-    fn from(unread: Unread) -> Stop {
+    fn from(unread: Unread) -> LoadError {
         match unread {
-            Unread::Failed => Stop::Unread,
-            Unread::Memory => Stop::Memory,
+            Unread::Failed => LoadError::Unread,
+            Unread::Memory => LoadError::Memory,
         }
     }
 }
 
-impl From<Memory> for Stop {
-    ghost use Rattle.tap_reading.specs.declared.stops.Stop.TheVariants.{Memory};
+impl From<Memory> for LoadError {
+    ghost use Rattle.tap_reading.specs.declared.stops.LoadError.TheVariants.{Memory};
 
     ghost from_gives = { λ _ stop. stop ≡ Memory };
 
-    fn from(_: Memory) -> Stop {
-        Stop::Memory
+    fn from(_: Memory) -> LoadError {
+        LoadError::Memory
     }
 }
 
-impl From<SetupError> for Stop {
+impl From<SetupError> for LoadError {
     ghost from_gives = { λ error stop. stop ≡ stop_of_setup error };
 
-    fn from(error: SetupError) -> Stop {
+    fn from(error: SetupError) -> LoadError {
         if is_setup_want(&error) {
-            Stop::Memory
+            LoadError::Memory
         } else {
-            Stop::Setup(error)
+            LoadError::Setup(error)
         }
     }
 }
 
-impl From<TextError> for Stop {
+impl From<TextError> for LoadError {
     ghost from_gives = { λ error stop. stop ≡ stop_of_text error };
 
-    fn from(error: TextError) -> Stop {
+    fn from(error: TextError) -> LoadError {
         if is_text_want(&error) {
-            Stop::Memory
+            LoadError::Memory
         } else {
-            Stop::Text(error)
+            LoadError::Text(error)
         }
     }
 }

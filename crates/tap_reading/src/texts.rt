@@ -7,13 +7,10 @@ ghost use Rattle.tap_reading.specs.Fronts.{CantRead, GaveFew, GaveText, IsTextOf
 ghost use Rattle.tap_reading.specs.Fronts.{ReadTexts};
 ghost use Rattle.tap_reading.specs.Fronts.{text_entry};
 
-use frame_view::ByteList;
+use frame_view::{ByteList, PIECE};
 use std::alloc::{AllocError, Global};
 use tap_outside::{OutError, Source, Store};
 use text_lines::LARGEST_TEXT;
-
-/// The most bytes that are asked for at once.
-pub(crate) const PIECE: usize = 65_536;
 
 /// Why a text can't be read.
 #[derive(Clone, Copy, Debug, PartialEq, Eq)]

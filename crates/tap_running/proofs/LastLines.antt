@@ -1,5 +1,6 @@
 -- What was printed when memory ran out.
-use Rattle.std.proofs.Common.{Bool, List, None, Option, Some, append-nil, arith, false, inl, inr, refl, sym, true, ℕ, ◌+◌, ◌≡◌, ◌≤◌}
+use Rattle.std.proofs.Common.{Bool, List, None, Option, Some, append-nil, arith, false, inl, inr, refl, sym, true, ℕ, ◌+◌, ◌≡◌}
+use Rattle.std.proofs.Common.{◌≤◌}
 use Rattle.std.specs.Io.KnownBytes.{Appends}
 use Rattle.std.specs.Prelude.{Err, Ok, OnErr, OnOk, Result}
 use Rattle.tap_outside.specs.Counts.{Rose, RoseBy, counted}

@@ -6,7 +6,8 @@ use Rattle.capture_file.specs.declared.cpu_end.CpuEnd.TheVariants.{Damaged, Faul
 use Rattle.capture_file.specs.declared.error.CaptureError.{CaptureError}
 use Rattle.capture_file.specs.declared.error.CaptureError.TheVariants.{Truncated}
 use Rattle.capture_reading.specs.Sources.{UnlessFault, WhereEnded, end_by}
-use Rattle.std.proofs.Common.{Bool, List, None, Option, Some, ap, arith, false, inl, inr, length, refl, subst, sym, true, ℕ, ◌++◌, ◌+◌, ◌∙◌, ◌≡◌, ◌≢◌}
+use Rattle.std.proofs.Common.{Bool, List, None, Option, Some, ap, arith, false, inl, inr, length, refl, subst, sym, true, ℕ}
+use Rattle.std.proofs.Common.{◌++◌, ◌+◌, ◌∙◌, ◌≡◌, ◌≢◌}
 use Rattle.std.specs.Option.{option_or}
 use Rattle.std.specs.Prelude.{if◌then◌else◌, nat_lt, ◌⊎◌}
 use Rattle.tap_running.specs.Captures.{fault_at}

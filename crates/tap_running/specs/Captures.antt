@@ -5,7 +5,8 @@ use Rattle.capture_file.specs.declared.cpu_end.CpuEnd.TheVariants.{Damaged, Faul
 use Rattle.capture_reading.specs.Sources.{EndsAtDamage, UnlessFault, WhereEnded, WhereFault, end_by}
 use Rattle.setup_text.specs.declared.cpu_setups.CpuSetup.{CpuSetup}
 use Rattle.std.specs.List.{AllByRecursion}
-use Rattle.std.specs.Prelude.{Bool, List, None, Option, [], false, length, true, ℕ, ⊤, ◌∷◌, ◌≡◌, ◌≤◌}
+use Rattle.std.specs.Prelude.{Bool, List, None, Option, [], false, length, true, ℕ, ⊤, ◌∷◌, ◌≡◌}
+use Rattle.std.specs.Prelude.{◌≤◌}
 use Rattle.tap_outside.specs.Contents.{Contents, GivesFile}
 use Rattle.tap_outside.specs.Seen.{Entry, SourceSeen}
 use Rattle.tap_reading.specs.Fronts.{IsAllOf, IsFrontOf}

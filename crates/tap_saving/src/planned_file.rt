@@ -15,7 +15,7 @@ use tap_outside::{OutError, Store};
 
 /// Where the bytes of a file come from.
 #[derive(Clone, Copy)]
-pub(crate) enum Content<'a> {
+pub(crate) enum Origin<'a> {
     /// From packets, of which a capture file is made while it is saved.
     Packets(&'a Packets),
     /// From a dump.
@@ -28,7 +28,7 @@ pub(crate) struct PlannedFile<'a> {
     /// Its name in the store.
     name: Vec<u8>,
     /// Where its bytes come from.
-    content: Content<'a>,
+    content: Origin<'a>,
 }
 
 impl<'a> Model for PlannedFile<'a> {
@@ -51,7 +51,7 @@ impl<'a> PlannedFile<'a> {
     {
         PlannedFile {
             name,
-            content: Content::Packets(packets),
+            content: Origin::Packets(packets),
         }
     }
 
@@ -61,7 +61,7 @@ impl<'a> PlannedFile<'a> {
     {
         PlannedFile {
             name,
-            content: Content::Blocks(dump),
+            content: Origin::Blocks(dump),
         }
     }
 
@@ -74,8 +74,8 @@ impl<'a> PlannedFile<'a> {
         ensures memory { OnErr result (S.seen store.new ≡ S.seen store.old) }
     {
         let saved = match self.content {
-            Content::Blocks(dump) => store.save_pieces(alloc, &self.name, BlockPieces::new(dump)),
-            Content::Packets(packets) => {
+            Origin::Blocks(dump) => store.save_pieces(alloc, &self.name, BlockPieces::new(dump)),
+            Origin::Packets(packets) => {
                 store.save_pieces(alloc, &self.name, PcapPieces::new(packets))
             }
         };

@@ -5,11 +5,11 @@ use Rattle.std.specs.Prelude.{if◌then◌else◌}
 use Rattle.fanout_group.specs.Plans.{rolls_over}
 use Rattle.pace_laws.specs.Paces.{pace_of, stalls_of}
 use Rattle.reader_pace.specs.declared.paces.MoreFile.{MoreFile}
-use Rattle.reader_pace.specs.declared.readers.Reader.{Reader}
+use Rattle.reader_pace.specs.declared.readers.PacedReader.{PacedReader}
 use Rattle.ring_sizes.specs.Phases.{AreTried, IsFirstMost}
 use Rattle.ring_sizes.specs.declared.paces.Arrival.{Arrival}
-use Rattle.ring_sizes.specs.declared.paces.Pace.{Pace}
-use Rattle.ring_sizes.specs.declared.paces.Stall.{Stall}
+use Rattle.ring_sizes.specs.declared.paces.Timing.{Timing}
+use Rattle.ring_sizes.specs.declared.paces.StallTime.{StallTime}
 use Rattle.ring_sizes.specs.declared.tries.Reached.{Reached}
 use Rattle.ring_sizes.specs.declared.tries.Tries.{Tries}
 use Rattle.setup_text.specs.declared.setups.Setup.{Setup}
@@ -29,11 +29,11 @@ no_more_files : (more : List MoreFile) (rest : Option Unanswered) → unanswered
 no_more_files [] rest is = is
 no_more_files (file ∷ files) rest is = cc
 
-pub record IsAnswerable (reader : Reader) : Type 0 where
+pub record IsAnswerable (reader : PacedReader) : Type 0 where
   pub pace : unanswered_pace reader.pace ≡ None
   pub blocks : reader.slots ≡ false
 
-pub answerable : (reader : Reader) → unanswered_by reader ≡ None → IsAnswerable reader
+pub answerable : (reader : PacedReader) → unanswered_by reader ≡ None → IsAnswerable reader
 answerable reader none = by reader.slots refl none where
   by : (b : Bool) → reader.slots ≡ b
       → (if b then Some Slots else unanswered_more reader.more (unanswered_pace reader.pace)) ≡ None
@@ -55,21 +55,21 @@ pub not_both_ways : (b : Bool) → b ≡ true → b ≡ false → ⊥
 not_both_ways true is other = cc
 not_both_ways false is other = cc
 
-pub rings_with : (room : ℕ) (reader : Reader) (pace : Pace) (tov : ℕ) (tries : Tries)
-    (stalls : List Stall) (end time_out : ℕ) (all : List (List Arrival)) (rings : List Reached)
+pub rings_with : (room : ℕ) (reader : PacedReader) (pace : Timing) (tov : ℕ) (tries : Tries)
+    (stalls : List StallTime) (end time_out : ℕ) (all : List (List Arrival)) (rings : List Reached)
     → tov ≡ time_out → tries ≡ tries_by reader tov → stalls ≡ stalls_of reader.stalls
     → AreFirstMost room (record { pace = pace; stalls = stalls; end = end }) tries all rings
     → AreFirstMost room (record { pace = pace; stalls = stalls_of reader.stalls; end = end })
     (tries_by reader time_out) all rings
 rings_with room reader pace tov tries stalls end time_out all rings tov_is tries_are stalls_are are =
-    subst (λ (ss : List Stall). AreFirstMost room (record { pace = pace; stalls = ss; end = end })
+    subst (λ (ss : List StallTime). AreFirstMost room (record { pace = pace; stalls = ss; end = end })
     (tries_by reader time_out) all rings) stalls_are
     (subst (λ (ts : Tries). AreFirstMost room (record { pace = pace; stalls = stalls; end = end }) ts
     all rings) (tries_are ∙ ap (tries_by reader) tov_is) are)
 
-pub answered_by : (setup : Setup) (reader : Reader) (all : List (List Arrival)) (end : ℕ)
-    (files : List ReadFile) (report : SizeReport) (pace : Pace) (tov : ℕ) (tries : Tries)
-    (stalls : List Stall) (rings : List Reached) (first : Reached)
+pub answered_by : (setup : Setup) (reader : PacedReader) (all : List (List Arrival)) (end : ℕ)
+    (files : List ReadFile) (report : SizeReport) (pace : Timing) (tov : ℕ) (tries : Tries)
+    (stalls : List StallTime) (rings : List Reached) (first : Reached)
     → tov ≡ time_out_of setup.shape → pace_of tov reader.pace ≡ Some pace
     → tries ≡ tries_by reader tov → AreTried pace tries → tries.from_end ≤ 2 ^ 32
     → stalls ≡ stalls_of reader.stalls
@@ -105,7 +105,7 @@ answered_by setup reader all end files report pace tov tries stalls rings first 
           (record { pace = pace; stalls = stalls_of reader.stalls; end = end })
           (tries_by reader (time_out_of setup.shape)) all rings first is some mine);
       members = members;
-      drops = λ alone. subst (λ (ss : List Stall). AreDropRanges (room_of setup.shape)
+      drops = λ alone. subst (λ (ss : List StallTime). AreDropRanges (room_of setup.shape)
           setup.shape.block_nr (record { pace = pace; stalls = ss; end = end })
           (tries_by reader (time_out_of setup.shape)) all report.drops) stalls_are
           (subst (λ (ts : Tries). AreDropRanges (room_of setup.shape) setup.shape.block_nr

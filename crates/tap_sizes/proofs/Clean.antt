@@ -3,7 +3,7 @@
 use Rattle.std.proofs.Common.{◌≡◌, ℕ, ◌+◌, List, [], ◌∷◌, Option, None, Some, inl, inr, refl, sym, ap, ◌∙◌, subst, arith}
 use Rattle.bpf_filter.specs.declared.insn.Insn.{Insn}
 use Rattle.reader_pace.specs.declared.reader_error.ReaderError.{ReaderError}
-use Rattle.reader_pace.specs.declared.readers.Reader.{Reader}
+use Rattle.reader_pace.specs.declared.readers.PacedReader.{PacedReader}
 use Rattle.setup_text.specs.declared.cpu_setups.CpuSetup.{CpuSetup}
 use Rattle.setup_text.specs.declared.jobs.Job.{Job}
 use Rattle.setup_text.specs.declared.text_error.TextError.{TextError}
@@ -58,7 +58,7 @@ clean_job a b named job is =
     clean_then a is.between b (clean_texts a is.between _ is.setup_is.texts)
     (clean_program is.between b job.setup.filter job.program is.program_is)
 
-pub clean_asked : (a b : StoreSeen) (named : SizeNamed) (job : Job) (reader : Reader)
+pub clean_asked : (a b : StoreSeen) (named : SizeNamed) (job : Job) (reader : PacedReader)
     → IsSizeAsked a b named job reader → RanOut a b
 clean_asked a b named job reader is =
     clean_then a is.between b (clean_job a is.between named job is.job_is)

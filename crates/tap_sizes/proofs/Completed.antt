@@ -9,7 +9,7 @@ use Rattle.frame_deals.specs.Dealings.{Dealing}
 use Rattle.reader_pace.specs.Readers.{reader_of}
 use Rattle.reader_pace.specs.Timelines.{end_of}
 use Rattle.reader_pace.specs.declared.reader_error.ReaderError.{ReaderError}
-use Rattle.reader_pace.specs.declared.readers.Reader.{Reader}
+use Rattle.reader_pace.specs.declared.readers.PacedReader.{PacedReader}
 use Rattle.setup_text.specs.Filters.{filter_of}
 use Rattle.setup_text.specs.declared.commands.Command.TheVariants.{Replay}
 use Rattle.setup_text.specs.declared.cpu_setups.CpuSetup.{CpuSetup}
@@ -96,13 +96,13 @@ bad_reader files named a b error held sound h =
     (Err error)) kept h.refused.says)
 
 asked_setup : (files : Contents) (named : SizeNamed) (sound : IsSoundSize files named)
-    (a b : StoreSeen) (job : Job) (reader : Reader) → a.held ≡ Some files
+    (a b : StoreSeen) (job : Job) (reader : PacedReader) → a.held ≡ Some files
     → IsSizeAsked a b named job reader → sound.setup ≡ job.setup
 asked_setup files named sound a b job reader held asked =
     job_setup files named sound a asked.between job held asked.job_is
 
 asked_reader : (files : Contents) (named : SizeNamed) (sound : IsSoundSize files named)
-    (a b : StoreSeen) (job : Job) (reader : Reader) → a.held ≡ Some files
+    (a b : StoreSeen) (job : Job) (reader : PacedReader) → a.held ≡ Some files
     → IsSizeAsked a b named job reader → sound.reader ≡ reader
 asked_reader files named sound a b job reader held asked =
     let kept : asked.between.held ≡ Some files =
@@ -119,10 +119,10 @@ some_none None x e f = cc
 some_none (Some y) x e f = cc
 
 answered_still : (files : Contents) (named : SizeNamed) (sound : IsSoundSize files named)
-    (a b : StoreSeen) (job : Job) (reader : Reader) → a.held ≡ Some files
+    (a b : StoreSeen) (job : Job) (reader : PacedReader) → a.held ≡ Some files
     → IsSizeAsked a b named job reader → unanswered_by reader ≡ None
 answered_still files named sound a b job reader held asked =
-    subst (λ (r : Reader). unanswered_by r ≡ None)
+    subst (λ (r : PacedReader). unanswered_by r ≡ None)
     (asked_reader files named sound a b job reader held asked) sound.answered
 
 -- ---- captures that are whole end whole, and give all that the store holds
@@ -172,7 +172,7 @@ whole_reads files a b job cpu (s ∷ setups) (x ∷ all) (f ∷ read) (d ∷ dea
     }
 
 captures_whole : (files : Contents) (named : SizeNamed) (sound : IsSoundSize files named)
-    (a b : StoreSeen) (job : Job) (reader : Reader) (bytes : List (List ℕ)) (read : List ReadFile)
+    (a b : StoreSeen) (job : Job) (reader : PacedReader) (bytes : List (List ℕ)) (read : List ReadFile)
     → a.held ≡ Some files → AreCapturesRead a b named job reader bytes read → file_faults read ≡ 0
     → AreWholeReads files job.setup.cpus bytes read
 captures_whole files named sound a b job reader bytes read held are none =

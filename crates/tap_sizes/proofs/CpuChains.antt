@@ -2,7 +2,7 @@
 use Rattle.std.proofs.Common.{◌≡◌, ℕ, ◌+◌, ◌<◌, ◌≤◌, List, [], ◌∷◌, ◌++◌, get_or, length, take, Option}
 use Rattle.std.proofs.Common.{zero, suc, refl, sym, ap, ◌∙◌, subst, arith, length-take-le}
 use Rattle.fanout_group.specs.Judgements.{AgreesAt}
-use Rattle.fanout_group.specs.Lenses.{lens_of as lens_of_rules}
+use Rattle.fanout_group.specs.RulesOfJudging.{judge_rules_of as judge_rules_of_rules}
 use Rattle.fanout_group.specs.declared.judgements.ArrivalRules.{ArrivalRules}
 use Rattle.std.proofs.lemmas.Option.{get_or_from_slice_get, slice_get_read}
 use Rattle.capture_file.specs.Capture.{frames_of}
@@ -10,7 +10,7 @@ use Rattle.capture_file.specs.declared.cpu_end.CpuEnd.{CpuEnd}
 use Rattle.frame_deals.specs.Dealings.{Dealing, after_frames, first_dealing}
 use Rattle.frame_deals.specs.FileReadings.{HasReadFile}
 use Rattle.frame_deals.specs.declared.files.FileReading.{FileReading}
-use Rattle.run_reports.specs.Jobs.{lens_of, rules_of}
+use Rattle.run_reports.specs.Jobs.{judge_rules_of, rules_of}
 use Rattle.setup_text.specs.declared.cpu_setups.CpuSetup.{CpuSetup}
 use Rattle.setup_text.specs.declared.jobs.Job.{Job}
 use Rattle.size_printing.specs.declared.size_reports.ReadFile.{ReadFile}
@@ -27,7 +27,7 @@ pub cpu_read : (a b c : StoreSeen) (job : Job) (cpu : ℕ) (name : List ℕ)
     (reading : FileReading)
     → IsFetched a b name before
     → HasReadFile rules before after (first_dealing cpu job.setup.plan) deal reading
-    → IsClosed b c after → AgreesAt cpu (lens_of job) (lens_of_rules rules)
+    → IsClosed b c after → AgreesAt cpu (judge_rules_of job) (judge_rules_of_rules rules)
     → rules.room ≡ room_of job.setup.shape
     → (bytes : List ℕ) × IsCpuRead a c job cpu name bytes
     (record { cpu = cpu; frames = reading.frames; arrivals = reading.arrivals; end = reading.end })
@@ -39,7 +39,7 @@ cpu_read a b c job cpu name before after rules deal reading fetched read closed 
     cpu_is = refl;
     frames = read.frames;
     arrivals = let sum = read.arrivals in omega (arith, sum);
-    deal_is = read.took (lens_of job) agrees
+    deal_is = read.took (judge_rules_of job) agrees
         ∙ ap (λ (r : ℕ). after_frames (rules_of job) r (frames_of cpu read.bytes)
         (first_dealing cpu job.setup.plan)) room;
   },
@@ -60,7 +60,7 @@ pub cpu_read_by : (a b c : StoreSeen) (job : Job) (cpu : ℕ) (setup item : CpuS
     → cpu < length job.setup.cpus → name ≡ item.file
     → start ≡ first_dealing cpu job.setup.plan → IsFetched a b name before
     → HasReadFile rules before after start deal reading → IsClosed b c after
-    → AgreesAt cpu (lens_of job) (lens_of_rules rules) → rules.room ≡ room_of job.setup.shape
+    → AgreesAt cpu (judge_rules_of job) (judge_rules_of_rules rules) → rules.room ≡ room_of job.setup.shape
     → (bytes : List ℕ) × IsCpuRead a c job cpu setup.file bytes
     (record { cpu = cpu; frames = reading.frames; arrivals = reading.arrivals; end = reading.end })
     deal

@@ -1,5 +1,6 @@
 -- From what was read of the captures to what the members are given, and to the answers.
-use Rattle.std.proofs.Common.{◌≡◌, ℕ, zero, suc, ◌+◌, ◌*◌, ◌<◌, ◌≤◌, ◌^◌, Bool, true, false, List, [], ◌∷◌, ◌++◌, max, length, map}
+use Rattle.std.proofs.Common.{◌≡◌, ℕ, zero, suc, ◌+◌, ◌*◌, ◌<◌, ◌≤◌, ◌^◌, Bool, true, false, List, [], ◌∷◌, ◌++◌, max, length}
+use Rattle.std.proofs.Common.{map}
 use Rattle.std.proofs.Common.{Option, None, Some, refl, sym, ap, ◌∙◌, subst, arith, append-nil, get_or}
 use Rattle.std.specs.Prelude.{slice_get, if◌then◌else◌}
 use Rattle.std.specs.List.{AllByRecursion}
@@ -18,10 +19,10 @@ use Rattle.pace_laws.specs.Paces.{pace_of, stalls_of}
 use Rattle.pace_laws.specs.JobSizings.{sizing_over}
 use Rattle.pace_laws.specs.Sizings.{IsSizing, Sizing, given_to}
 use Rattle.reader_pace.specs.Timelines.{end_of}
-use Rattle.reader_pace.specs.declared.readers.Reader.{Reader}
+use Rattle.reader_pace.specs.declared.readers.PacedReader.{PacedReader}
 use Rattle.ring_sizes.specs.Phases.{AreTried, IsFirstFewest, IsFirstMost}
 use Rattle.ring_sizes.specs.declared.paces.Arrival.{Arrival}
-use Rattle.ring_sizes.specs.declared.paces.Pace.{Pace}
+use Rattle.ring_sizes.specs.declared.paces.Timing.{Timing}
 use Rattle.ring_sizes.specs.declared.phase_losses.DropRange.{DropRange}
 use Rattle.ring_sizes.specs.declared.tries.Reached.{Reached}
 use Rattle.ring_sizes.specs.declared.tries.Tries.{Tries}
@@ -55,7 +56,7 @@ abbrev pub times_by_file : List (List ℕ) → List (List ℕ)
 times_by_file all = times_by (one_each all)
 
 -- and the sizing that has them
-abbrev pub sizing_in : Job → Reader → List (List ℕ) → Sizing
+abbrev pub sizing_in : Job → PacedReader → List (List ℕ) → Sizing
 sizing_in job reader bytes = sizing_over (room_of job.setup.shape) job reader (captures_by 0 (one_each bytes))
 
 pub all_read : (old new : StoreSeen) (job : Job) (cpu : ℕ) (setups : List CpuSetup)
@@ -81,7 +82,7 @@ has_shape job = record { members = refl; mode = refl }
 
 -- ---- what the members are given, and when the run ends
 
-pub given_is : (job : Job) (reader : Reader) (bytes : List (List ℕ)) (deals : List Dealing) (dealt : Dealt)
+pub given_is : (job : Job) (reader : PacedReader) (bytes : List (List ℕ)) (deals : List Dealing) (dealt : Dealt)
     (member : ℕ)
     → AreMarkLists (rules_of job) (room_of job.setup.shape) (times_by_file bytes) (arriving_in job bytes)
     (map (λ dealing. dealing.marks) deals)
@@ -107,7 +108,7 @@ all_early [] each = tt
 all_early (arrivals ∷ all) each =
     (each 0 (omega arith), all_early all (λ member less. each (suc member) (omega (arith, less))))
 
-pub deal_early : (job : Job) (reader : Reader) (bytes : List (List ℕ)) (deals : List Dealing) (dealt : Dealt)
+pub deal_early : (job : Job) (reader : PacedReader) (bytes : List (List ℕ)) (deals : List Dealing) (dealt : Dealt)
     → AreMarkLists (rules_of job) (room_of job.setup.shape) (times_by_file bytes) (arriving_in job bytes)
     (map (λ dealing. dealing.marks) deals)
     → IsDeal job.setup.plan (map (λ dealing. dealing.marks) deals) dealt
@@ -182,18 +183,18 @@ range_at room blocks clocks tries (arrivals ∷ all) (r ∷ ranges) (suc member)
 
 -- ---- the laws of pace_laws for what was tried
 
-abbrev pub IsDecided : Sizing → Pace → Tries → Type 0
+abbrev pub IsDecided : Sizing → Timing → Tries → Type 0
 IsDecided sizing pace tries =
     (found : Reached) (member : ℕ) → rolls_over sizing.rules ≡ false
     → member < sizing.rules.members
     → IsFirstMost tries (least_at sizing pace member) found → IsLeastRing sizing member tries found
 
-abbrev pub IsGroupDecided : Sizing → Pace → Tries → Type 0
+abbrev pub IsGroupDecided : Sizing → Timing → Tries → Type 0
 IsGroupDecided sizing pace tries =
     (found : Reached) → IsFirstMost tries (group_least_at sizing pace) found
     → IsLeastOfGroup sizing tries found
 
-abbrev pub AreDecided : Sizing → Pace → ℕ → Tries → Type 0
+abbrev pub AreDecided : Sizing → Timing → ℕ → Tries → Type 0
 AreDecided sizing pace blocks tries =
     (found : Reached) (member : ℕ) → rolls_over sizing.rules ≡ false
     → (IsFirstMost tries (drops_at sizing pace member blocks) found
@@ -201,7 +202,7 @@ AreDecided sizing pace blocks tries =
     × (IsFirstFewest tries (drops_at sizing pace member blocks) found
     → AreFewestDrops sizing member blocks tries found)
 
-pub record AreLaws (sizing : Sizing) (pace : Pace) (blocks : ℕ) (tries : Tries) : Type 0 where
+pub record AreLaws (sizing : Sizing) (pace : Timing) (blocks : ℕ) (tries : Tries) : Type 0 where
   pub members : IsDecided sizing pace tries
   pub group : IsGroupDecided sizing pace tries
   pub drops : AreDecided sizing pace blocks tries
@@ -221,11 +222,11 @@ fewest_as tries one other found same is = record {
 }
 
 -- the clocks of a pace
-abbrev clocks_of : Reader → Pace → ℕ → Clocks
+abbrev clocks_of : PacedReader → Timing → ℕ → Clocks
 clocks_of reader its_pace last =
     record { pace = its_pace; stalls = stalls_of reader.stalls; end = last }
 
-least_same : (job : Job) (reader : Reader) (bytes : List (List ℕ)) (pace : Pace)
+least_same : (job : Job) (reader : PacedReader) (bytes : List (List ℕ)) (pace : Timing)
     (end member : ℕ) (arrivals : List Arrival) (phase from : ℕ)
     → end ≡ end_of (times_by_file bytes) → arrivals ≡ given_to (sizing_in job reader bytes) member
     → least_by (room_of job.setup.shape) (clocks_of reader pace end) arrivals phase from
@@ -236,7 +237,7 @@ least_same job reader bytes pace end member arrivals phase from ends given =
     ∙ ap (λ (e : ℕ). least_by (room_of job.setup.shape) (clocks_of reader pace e)
     (given_to (sizing_in job reader bytes) member) phase from) ends
 
-drops_same : (job : Job) (reader : Reader) (bytes : List (List ℕ)) (pace : Pace)
+drops_same : (job : Job) (reader : PacedReader) (bytes : List (List ℕ)) (pace : Timing)
     (end member : ℕ) (arrivals : List Arrival) (phase from : ℕ)
     → end ≡ end_of (times_by_file bytes) → arrivals ≡ given_to (sizing_in job reader bytes) member
     → drops_by (room_of job.setup.shape) job.setup.shape.block_nr (clocks_of reader pace end)
@@ -257,7 +258,7 @@ lowest number_of zero = omega arith
 lowest number_of (suc count) =
     let rest = lowest number_of count in omega (arith, rest)
 
-most_same : (job : Job) (reader : Reader) (bytes : List (List ℕ)) (pace : Pace) (end at : ℕ)
+most_same : (job : Job) (reader : PacedReader) (bytes : List (List ℕ)) (pace : Timing) (end at : ℕ)
     (all : List (List Arrival)) (phase from : ℕ) → end ≡ end_of (times_by_file bytes)
     → ((member : ℕ) → member < length all
     → get_or all member [] ≡ given_to (sizing_in job reader bytes) (at + member))
@@ -290,7 +291,7 @@ most_same job reader bytes pace end at (arrivals ∷ all) phase from ends given 
           ap (λ n. max n (one count)) (numbers_greatest one other count same)
           ∙ ap (λ n. max (greatest_of other count) n) (same count)
 
-group_same : (job : Job) (reader : Reader) (bytes : List (List ℕ)) (pace : Pace) (end : ℕ)
+group_same : (job : Job) (reader : PacedReader) (bytes : List (List ℕ)) (pace : Timing) (end : ℕ)
     (all : List (List Arrival)) (phase from : ℕ) → end ≡ end_of (times_by_file bytes)
     → length all ≡ job.setup.plan.members
     → ((member : ℕ) → member < length all
@@ -320,7 +321,7 @@ group_same job reader bytes pace end all phase from ends count given =
 
 -- ---- the answers
 
-members_answered : (job : Job) (reader : Reader) (bytes : List (List ℕ))
+members_answered : (job : Job) (reader : PacedReader) (bytes : List (List ℕ))
     (all : List (List Arrival)) (end : ℕ) (files : List ReadFile) (report : SizeReport)
     → end ≡ end_of (times_by_file bytes) → length all ≡ job.setup.plan.members
     → ((member : ℕ) → member < length all
@@ -367,7 +368,7 @@ members_answered job reader bytes all end files report ends count given is laws 
           };
     }
 
-pub answered : (job : Job) (reader : Reader) (bytes : List (List ℕ)) (all : List (List Arrival))
+pub answered : (job : Job) (reader : PacedReader) (bytes : List (List ℕ)) (all : List (List Arrival))
     (end : ℕ) (files : List ReadFile) (report : SizeReport)
     → end ≡ end_of (times_by_file bytes) → length all ≡ job.setup.plan.members
     → ((member : ℕ) → member < length all
@@ -398,7 +399,7 @@ end_run job bytes deals dealt marks deal ones =
     end_is job bytes deals dealt marks deal
     ∙ ap (λ (captures : List (List Frame)). end_of (map times_of captures)) ones
 
-pub reported : (job : Job) (reader : Reader) (bytes : List (List ℕ)) (deals : List Dealing)
+pub reported : (job : Job) (reader : PacedReader) (bytes : List (List ℕ)) (deals : List Dealing)
     (dealt : Dealt) (files : List ReadFile) (unit : ℕ) (report : SizeReport)
     → AreMarkLists (rules_of job) (room_of job.setup.shape) (times_by_file bytes)
     (arriving_in job bytes) (map (λ dealing. dealing.marks) deals)
@@ -422,20 +423,20 @@ reported job reader bytes deals dealt files unit report marks deal ones size is 
 
 abbrev pub RingLaw : Type 0
 RingLaw =
-    (sizing : Sizing) (pace : Pace) (tries : Tries) (found : Reached) (member : ℕ)
+    (sizing : Sizing) (pace : Timing) (tries : Tries) (found : Reached) (member : ℕ)
     → rolls_over sizing.rules ≡ false → IsSizing sizing pace → AreTried pace tries
     → tries.from_end ≤ 2 ^ 32 → member < sizing.rules.members
     → IsFirstMost tries (least_at sizing pace member) found → IsLeastRing sizing member tries found
 
 abbrev pub GroupLaw : Type 0
 GroupLaw =
-    (sizing : Sizing) (pace : Pace) (tries : Tries) (found : Reached) → IsSizing sizing pace
+    (sizing : Sizing) (pace : Timing) (tries : Tries) (found : Reached) → IsSizing sizing pace
     → AreTried pace tries → tries.from_end ≤ 2 ^ 32
     → IsFirstMost tries (group_least_at sizing pace) found → IsLeastOfGroup sizing tries found
 
 abbrev pub MostLaw : Type 0
 MostLaw =
-    (sizing : Sizing) (pace : Pace) (tries : Tries) (found : Reached) (member blocks : ℕ)
+    (sizing : Sizing) (pace : Timing) (tries : Tries) (found : Reached) (member blocks : ℕ)
     → rolls_over sizing.rules ≡ false → IsSizing sizing pace → AreTried pace tries
     → tries.from_end ≤ 2 ^ 32 → 1 ≤ blocks
     → IsFirstMost tries (drops_at sizing pace member blocks) found
@@ -443,7 +444,7 @@ MostLaw =
 
 abbrev pub FewestLaw : Type 0
 FewestLaw =
-    (sizing : Sizing) (pace : Pace) (tries : Tries) (found : Reached) (member blocks : ℕ)
+    (sizing : Sizing) (pace : Timing) (tries : Tries) (found : Reached) (member blocks : ℕ)
     → rolls_over sizing.rules ≡ false → IsSizing sizing pace → AreTried pace tries
     → tries.from_end ≤ 2 ^ 32 → 1 ≤ blocks
     → IsFirstFewest tries (drops_at sizing pace member blocks) found
@@ -451,11 +452,11 @@ FewestLaw =
 
 abbrev pub SizingLaw : Type 0
 SizingLaw =
-    (room : ℕ) (job : Job) (reader : Reader) (captures : List (List Frame)) (pace : Pace)
+    (room : ℕ) (job : Job) (reader : PacedReader) (captures : List (List Frame)) (pace : Timing)
     → reader.slots ≡ false → pace_of (time_out_of job.setup.shape) reader.pace ≡ Some pace
     → IsSizing (sizing_over room job reader captures) pace
 
-pub laws_of : (job : Job) (reader : Reader) (bytes : List (List ℕ)) (all : List (List Arrival))
+pub laws_of : (job : Job) (reader : PacedReader) (bytes : List (List ℕ)) (all : List (List Arrival))
     (end : ℕ) (files : List ReadFile) (report : SizeReport) → reader.slots ≡ false
     → 1 ≤ job.setup.shape.block_nr → RingLaw → GroupLaw → MostLaw → FewestLaw → SizingLaw
     → (is : IsAnsweredBy job.setup reader all end files report)

@@ -3,7 +3,7 @@ use Rattle.std.proofs.Common.{◌≡◌, ℕ, Bool, List, [], ◌∷◌, Option,
 use Rattle.std.specs.Prelude.{◌⊎◌, IfOk, OnErr, Result, Ok, Err}
 use Rattle.frame_deals.specs.Dealings.{Dealing}
 use Rattle.frame_view.specs.declared.memory.Memory.{Memory}
-use Rattle.reader_pace.specs.declared.readers.Reader.{Reader}
+use Rattle.reader_pace.specs.declared.readers.PacedReader.{PacedReader}
 use Rattle.setup_text.specs.Filters.{filter_of}
 use Rattle.setup_text.specs.declared.jobs.Job.{Job}
 use Rattle.setup_text.specs.declared.setups.Setup.{Setup}
@@ -12,8 +12,8 @@ use Rattle.tap_outside.proofs.Kept.{OnlyReads-none, OnlyReads-then}
 use Rattle.tap_outside.specs.Seen.{OnlyReads, StoreSeen}
 use Rattle.tap_reading.specs.Fronts.{CantRead, RanOut}
 use Rattle.tap_reading.specs.Readers.{ReadsAs, Refuses, StopsAtSetup, StopsAtText}
-use Rattle.tap_reading.specs.declared.stops.Stop.{Stop}
-use Rattle.tap_reading.specs.declared.stops.Stop.TheVariants as stops
+use Rattle.tap_reading.specs.declared.stops.LoadError.{LoadError}
+use Rattle.tap_reading.specs.declared.stops.LoadError.TheVariants as stops
 use Rattle.setup_text.specs.declared.commands.Command.TheVariants.{Replay}
 use Rattle.tap_running.proofs.Counted.{counts_later}
 use Rattle.tap_running.proofs.TextOrder.{read_none}
@@ -44,7 +44,7 @@ no_names command a none =
 -- ---- setup and filter
 
 -- why there is no setup
-pub at_setup : (old new : StoreSeen) (named : SizeNamed) (stop : Stop)
+pub at_setup : (old new : StoreSeen) (named : SizeNamed) (stop : LoadError)
     → StopsAtSetup Replay old new named.setup stop → StopsAtJob old new named stop
 at_setup old new named stops.Unread h = inl h
 at_setup old new named (stops.Setup error) h = h
@@ -53,7 +53,7 @@ at_setup old new named stops.Memory h = h
 
 -- why there is no filter, after the setup
 at_name : (old mid new : StoreSeen) (named : SizeNamed) (setup : Setup) (name : List ℕ)
-    (stop : Stop) → setup.filter ≡ Some name → IsSetupRead old mid named setup
+    (stop : LoadError) → setup.filter ≡ Some name → IsSetupRead old mid named setup
     → StopsAtText filter_of mid new name stop → StopsAtJob old new named stop
 at_name old mid new named setup name stops.Unread is read h =
     inr (record {
@@ -71,7 +71,7 @@ at_name old mid new named setup name stops.Memory is read h =
     clean_then old mid new (clean_texts old mid _ read.texts) h
 
 pub at_filter : (old mid new : StoreSeen) (named : SizeNamed) (setup : Setup)
-    (filter : Option (List ℕ)) (stop : Stop) → filter ≡ setup.filter
+    (filter : Option (List ℕ)) (stop : LoadError) → filter ≡ setup.filter
     → IsSetupRead old mid named setup → StopsAtFilter mid new filter stop
     → StopsAtJob old new named stop
 at_filter old mid new named setup None stop is read h = absurd h
@@ -79,7 +79,7 @@ at_filter old mid new named setup (Some name) stop is read h =
     at_name old mid new named setup name stop (sym is) read h
 
 -- so the search ends there
-pub stopped : (old new : StoreSeen) (named : SizeNamed) (stop : Stop) → OnlyReads old new
+pub stopped : (old new : StoreSeen) (named : SizeNamed) (stop : LoadError) → OnlyReads old new
     → StopsAtJob old new named stop → IsSizeSearched (Some named) old new (finding_of_stop stop)
 stopped old new named stops.Unread only (inl setup) =
     record { reads = only; found = inl setup; cut = tt }
@@ -125,7 +125,7 @@ reader_stopped start mid new named name job stop is read only h =
     (subst (λ (n : List ℕ). StopsAtReader job.setup mid new n stop) (sym is) h)
 
 pub asked_of : (start mid new : StoreSeen) (named : SizeNamed) (name : List ℕ) (job : Job)
-    (reader : Reader) → named.reader ≡ name → IsJobRead start mid named job
+    (reader : PacedReader) → named.reader ≡ name → IsJobRead start mid named job
     → ReadsAs (reader_for job.setup) mid new name (Ok reader)
     → IsSizeAsked start new named job reader
 asked_of start mid new named name job reader is read h = record {
@@ -137,7 +137,7 @@ asked_of start mid new named name job reader is read h = record {
 
 -- ---- after the texts
 
-pub unanswered_found : (start a : StoreSeen) (named : SizeNamed) (job : Job) (reader : Reader)
+pub unanswered_found : (start a : StoreSeen) (named : SizeNamed) (job : Job) (reader : PacedReader)
     (why : Unanswered) → IsSizeAsked start a named job reader → unanswered_by reader ≡ Some why
     → IsSizeSearched (Some named) start a (Ok (finding.Unanswered why))
 unanswered_found start a named job reader why asked is = record {
@@ -146,7 +146,7 @@ unanswered_found start a named job reader why asked is = record {
   cut = tt;
 }
 
-pub cut_later : (start mid new : StoreSeen) (named : SizeNamed) (job : Job) (reader : Reader)
+pub cut_later : (start mid new : StoreSeen) (named : SizeNamed) (job : Job) (reader : PacedReader)
     (memory : Memory) → IsSizeAsked start mid named job reader → OnlyReads mid new
     → IsSizeSearched (Some named) start new (Err memory)
 cut_later start mid new named job reader memory asked only =
@@ -168,7 +168,7 @@ cut_later start mid new named job reader memory asked only =
       };
     }
 
-measured_found : (start mid new : StoreSeen) (named : SizeNamed) (job : Job) (reader : Reader)
+measured_found : (start mid new : StoreSeen) (named : SizeNamed) (job : Job) (reader : PacedReader)
     (bytes : List (List ℕ)) (files : List ReadFile) (deals : List Dealing) (found : SizeFinding)
     → IsSizeAsked start mid named job reader → unanswered_by reader ≡ None
     → AreCpusRead mid new job 0 job.setup.cpus bytes files deals
@@ -230,7 +230,7 @@ measured_found start mid new named job reader bytes files deals (finding.Sized k
           (cpus_counted mid new job 0 job.setup.cpus bytes report.files deals here),
     )
 
-pub measured : (start mid new : StoreSeen) (named : SizeNamed) (job : Job) (reader : Reader)
+pub measured : (start mid new : StoreSeen) (named : SizeNamed) (job : Job) (reader : PacedReader)
     (bytes : List (List ℕ)) (files : List ReadFile) (deals : List Dealing)
     (answer : Result SizeFinding Memory)
     → IsSizeAsked start mid named job reader → unanswered_by reader ≡ None

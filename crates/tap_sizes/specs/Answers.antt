@@ -1,12 +1,13 @@
 -- What the captures of a setup say about its rings.
-use Rattle.std.specs.Prelude.{◌≡◌, ℕ, ◌*◌, ◌<◌, true, false, List, [], length, slice_get, None, Some}
+use Rattle.std.specs.Prelude.{◌≡◌, ℕ, ◌*◌, ◌<◌, true, false, List, [], length, slice_get, None}
+use Rattle.std.specs.Prelude.{Some}
 use Rattle.fanout_group.specs.Plans.{rolls_over}
 use Rattle.frame_deals.specs.Dealings.{Dealing}
 use Rattle.pace_laws.specs.LeastRings.{AreFewestDrops, AreMostDrops, IsLeastOfGroup, IsLeastRing}
 use Rattle.pace_laws.specs.JobSizings.{sizing_of}
 use Rattle.pace_laws.specs.Sizings.{Sizing}
 use Rattle.reader_pace.specs.Timelines.{end_of}
-use Rattle.reader_pace.specs.declared.readers.Reader.{Reader}
+use Rattle.reader_pace.specs.declared.readers.PacedReader.{PacedReader}
 use Rattle.ring_sizes.specs.declared.phase_losses.DropRange.{DropRange}
 use Rattle.ring_sizes.specs.declared.tries.Reached.{Reached}
 use Rattle.ring_sizes.specs.declared.tries.Tries.{Tries}
@@ -24,7 +25,7 @@ use Rattle.tp_layout.specs.Requests.{time_out_of}
 
 -- the texts were read and are accepted, and then the captures were read, which gave these bytes
 pub record AreCapturesRead (old new : StoreSeen) (named : SizeNamed) (job : Job)
-    (reader : Reader) (bytes : List (List ℕ)) (files : List ReadFile) : Type 0 where
+    (reader : PacedReader) (bytes : List (List ℕ)) (files : List ReadFile) : Type 0 where
   pub between : StoreSeen
   pub asked : IsSizeAsked old between named job reader
   pub answered : unanswered_by reader ≡ None
@@ -35,17 +36,17 @@ pub record AreCapturesRead (old new : StoreSeen) (named : SizeNamed) (job : Job)
 pub record IsTooLong (old new : StoreSeen) (named : SizeNamed) (files : List ReadFile)
     : Type 0 where
   pub job : Job
-  pub reader : Reader
+  pub reader : PacedReader
   pub bytes : List (List ℕ)
   pub read_is : AreCapturesRead old new named job reader bytes files
   pub long : 4294967295 * 1000000 < end_of (times_in bytes)
 
 -- what is tried of the reader
-abbrev pub tries_for : Job → Reader → Tries
+abbrev pub tries_for : Job → PacedReader → Tries
 tries_for job reader = tries_by reader (time_out_of job.setup.shape)
 
 -- the fewest and the most packets that the setup's own ring of a member drops
-pub record IsRangeOf (job : Job) (reader : Reader) (sizing : Sizing) (member : ℕ)
+pub record IsRangeOf (job : Job) (reader : PacedReader) (sizing : Sizing) (member : ℕ)
     (range : DropRange) : Type 0 where
   pub fewest :
       AreFewestDrops sizing member job.setup.shape.block_nr (tries_for job reader) range.fewest
@@ -54,7 +55,7 @@ pub record IsRangeOf (job : Job) (reader : Reader) (sizing : Sizing) (member : �
 
 -- a ring for each member, which is the least in the replays of the group, and what the setup's own
 -- ring drops there
-pub record AreMembersAnswered (job : Job) (reader : Reader) (sizing : Sizing)
+pub record AreMembersAnswered (job : Job) (reader : PacedReader) (sizing : Sizing)
     (report : SizeReport) : Type 0 where
   pub count : length report.members ≡ job.setup.plan.members
   pub members : (member : ℕ) (ring : Reached) → slice_get report.members member ≡ Some ring
@@ -65,7 +66,7 @@ pub record AreMembersAnswered (job : Job) (reader : Reader) (sizing : Sizing)
 
 -- the answers over some captures: the least ring of the group, and without rollover those of the
 -- members
-pub record IsAnswered (job : Job) (reader : Reader) (sizing : Sizing) (report : SizeReport)
+pub record IsAnswered (job : Job) (reader : PacedReader) (sizing : Sizing) (report : SizeReport)
     : Type 0 where
   pub group : IsLeastOfGroup sizing (tries_for job reader) report.group
   pub members : rolls_over job.setup.plan ≡ false → AreMembersAnswered job reader sizing report
@@ -75,7 +76,7 @@ pub record IsAnswered (job : Job) (reader : Reader) (sizing : Sizing) (report : 
 pub record IsSized (old new : StoreSeen) (named : SizeNamed) (kind : RingKind) (unit : ℕ)
     (report : SizeReport) : Type 0 where
   pub job : Job
-  pub reader : Reader
+  pub reader : PacedReader
   pub bytes : List (List ℕ)
   pub read_is : AreCapturesRead old new named job reader bytes report.files
   pub kind_is : kind ≡ Blocks

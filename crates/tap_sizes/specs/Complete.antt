@@ -1,7 +1,7 @@
 -- Texts and captures with nothing wrong.
 use Rattle.std.specs.Prelude.{◌≡◌, ◌⊎◌, ◌*◌, ◌≤◌, Option, None, Some, Ok, map}
 use Rattle.reader_pace.specs.Timelines.{end_of}
-use Rattle.reader_pace.specs.declared.readers.Reader.{Reader}
+use Rattle.reader_pace.specs.declared.readers.PacedReader.{PacedReader}
 use Rattle.setup_text.specs.declared.setups.Setup.{Setup}
 use Rattle.tap_outside.specs.Contents.{Contents}
 use Rattle.tap_outside.specs.Counts.{Rose}
@@ -22,7 +22,7 @@ pub record IsSoundSize (files : Contents) (named : SizeNamed) : Type 0 where
   pub setup : Setup
   pub setup_is : size_setup_held files named ≡ Ok setup
   pub filter : IsSoundFilter files setup.filter
-  pub reader : Reader
+  pub reader : PacedReader
   pub reader_is : reader_for setup (text_in files named.reader) ≡ Ok reader
   pub answered : unanswered_by reader ≡ None
   pub captures : AreWhole files setup.cpus

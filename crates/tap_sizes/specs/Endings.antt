@@ -2,7 +2,7 @@
 use Rattle.std.specs.Prelude.{◌≡◌, ◌≢◌, ◌⊎◌, ℕ, ◌≤◌, ◌+◌, Bool, true, false, Option, None, Some}
 use Rattle.std.specs.Prelude.{if◌then◌else◌, IfOk, IfSome, IsTrue, OnErr, Result}
 use Rattle.frame_view.specs.declared.memory.Memory.{Memory}
-use Rattle.reader_pace.specs.declared.readers.Reader.{Reader}
+use Rattle.reader_pace.specs.declared.readers.PacedReader.{PacedReader}
 use Rattle.run_reports.specs.declared.ring_kind.RingKind.{RingKind}
 use Rattle.setup_text.specs.declared.jobs.Job.{Job}
 use Rattle.size_printing.specs.declared.size_reports.SizeReport.{SizeReport}
@@ -47,7 +47,7 @@ pub record AreAccepted (command : Option SizeNamed) (old : StoreSeen) : Type 0 w
   pub command_is : command ≡ Some named
   pub between : StoreSeen
   pub job : Job
-  pub reader : Reader
+  pub reader : PacedReader
   pub asked : IsSizeAsked old between named job reader
 
 -- memory ran out before anything was found; before all texts were accepted no read failed, and

@@ -3,7 +3,7 @@ use Rattle.std.specs.Prelude.{◌≡◌, ℕ, ◌+◌, List, [], ◌∷◌, ◌+
 use Rattle.std.specs.Prelude.{if◌then◌else◌, Result, Ok, Err}
 use Rattle.capture_file.specs.declared.cpu_end.CpuEnd.{CpuEnd}
 use Rattle.capture_file.specs.declared.cpu_end.CpuEnd.TheVariants.{Whole, Fault, Damaged}
-use Rattle.reader_pace.specs.declared.readers.Reader.{Reader}
+use Rattle.reader_pace.specs.declared.readers.PacedReader.{PacedReader}
 use Rattle.run_reports.specs.declared.ring_kind.RingKind.{RingKind}
 use Rattle.run_reports.specs.declared.ring_kind.RingKind.TheVariants.{Blocks}
 use Rattle.setup_text.specs.Answers.{is_setup_want}
@@ -35,7 +35,7 @@ use Rattle.tap_sizes.specs.declared.size_findings.SizeFinding.TheVariants as fin
 pub record IsUnanswered (old new : StoreSeen) (named : SizeNamed) (why : Unanswered)
     : Type 0 where
   pub job : Job
-  pub reader : Reader
+  pub reader : PacedReader
   pub asked : IsSizeAsked old new named job reader
   pub why_is : unanswered_by reader ≡ Some why
 

@@ -6,7 +6,7 @@ use Rattle.bpf_filter.specs.declared.insn.Insn.{Insn}
 use Rattle.reader_pace.specs.Answers.{is_reader_want}
 use Rattle.reader_pace.specs.Readers.{reader_of}
 use Rattle.reader_pace.specs.declared.reader_error.ReaderError.{ReaderError}
-use Rattle.reader_pace.specs.declared.readers.Reader.{Reader}
+use Rattle.reader_pace.specs.declared.readers.PacedReader.{PacedReader}
 use Rattle.setup_text.specs.Answers.{is_setup_want, is_text_want}
 use Rattle.setup_text.specs.Filters.{filter_of}
 use Rattle.setup_text.specs.declared.commands.Command.TheVariants.{Replay}
@@ -17,8 +17,8 @@ use Rattle.setup_text.specs.declared.text_error.TextError.{TextError}
 use Rattle.tap_outside.specs.Seen.{StoreSeen}
 use Rattle.tap_reading.specs.Fronts.{CantRead, RanOut}
 use Rattle.tap_reading.specs.Readers.{ReadsAs, Refuses, StopsAtText, setup_for}
-use Rattle.tap_reading.specs.declared.stops.Stop.{Stop}
-use Rattle.tap_reading.specs.declared.stops.Stop.TheVariants as stops
+use Rattle.tap_reading.specs.declared.stops.LoadError.{LoadError}
+use Rattle.tap_reading.specs.declared.stops.LoadError.TheVariants as stops
 use Rattle.tap_reading.specs.declared.texts.Unread.{Unread}
 use Rattle.tap_reading.specs.declared.texts.Unread.TheVariants as unread
 use Rattle.tap_sizes.specs.SizeWords.{SizeNamed}
@@ -27,7 +27,7 @@ use Rattle.tap_sizes.specs.declared.reader_stops.ReaderStop.TheVariants as reade
 use Rattle.tp_layout.specs.Requests.{time_out_of}
 
 -- the reader of readers' texts, for the CPUs and the time-out of a setup
-abbrev pub reader_for : Setup → List ℕ → Result Reader ReaderError
+abbrev pub reader_for : Setup → List ℕ → Result PacedReader ReaderError
 reader_for setup text = reader_of (length setup.cpus) (time_out_of setup.shape) text
 
 -- ---- what is accepted
@@ -49,7 +49,7 @@ pub record IsJobRead (old new : StoreSeen) (named : SizeNamed) (job : Job) : Typ
   pub program_is : IsProgramRead between new job.setup.filter job.program
 
 -- and then the reader's text
-pub record IsSizeAsked (old new : StoreSeen) (named : SizeNamed) (job : Job) (reader : Reader)
+pub record IsSizeAsked (old new : StoreSeen) (named : SizeNamed) (job : Job) (reader : PacedReader)
     : Type 0 where
   pub between : StoreSeen
   pub job_is : IsJobRead old between named job
@@ -97,12 +97,12 @@ CantReadText old new named =
 -- ---- what stops the program before all texts are accepted
 
 -- why there is no filter, if one is named
-abbrev pub StopsAtFilter : StoreSeen → StoreSeen → Option (List ℕ) → Stop → Type 0
+abbrev pub StopsAtFilter : StoreSeen → StoreSeen → Option (List ℕ) → LoadError → Type 0
 StopsAtFilter old new None stop = ⊥
 StopsAtFilter old new (Some name) stop = StopsAtText filter_of old new name stop
 
 -- why there are no setup and filter
-abbrev pub StopsAtJob : StoreSeen → StoreSeen → SizeNamed → Stop → Type 0
+abbrev pub StopsAtJob : StoreSeen → StoreSeen → SizeNamed → LoadError → Type 0
 StopsAtJob old new named stops.Unread = CantRead old new named.setup ⊎ CantReadFilter old new named
 StopsAtJob old new named (stops.Setup error) =
     Refuses (setup_for Replay) is_setup_want [] old new named.setup error

@@ -8,7 +8,7 @@ use Rattle.reader_pace.specs.declared.paces.Pace.{Pace}
 use Rattle.reader_pace.specs.declared.paces.Pace.TheVariants as pace
 use Rattle.reader_pace.specs.declared.paces.Phases.{Phases}
 use Rattle.reader_pace.specs.declared.paces.Phases.TheVariants as phases
-use Rattle.reader_pace.specs.declared.readers.Reader.{Reader}
+use Rattle.reader_pace.specs.declared.readers.PacedReader.{PacedReader}
 use Rattle.ring_sizes.specs.declared.tries.Tries.{Tries}
 use Rattle.tap_sizes.specs.declared.outcomes.Unanswered.{Unanswered}
 use Rattle.tap_sizes.specs.declared.outcomes.Unanswered.TheVariants.{More, Poll, Slots}
@@ -24,7 +24,7 @@ abbrev pub unanswered_more : List MoreFile → Option Unanswered → Option Unan
 unanswered_more [] rest = rest
 unanswered_more (file ∷ files) rest = Some More
 
-abbrev pub unanswered_by : Reader → Option Unanswered
+abbrev pub unanswered_by : PacedReader → Option Unanswered
 unanswered_by reader =
     if reader.slots then Some Slots
     else unanswered_more reader.more (unanswered_pace reader.pace)
@@ -56,7 +56,7 @@ from_end_of paced beginnings.All = beginnings_below paced
 from_end_of paced (beginnings.One from) = from + 1
 
 -- the phases and the beginnings of a reader that are tried, for this time-out
-abbrev pub tries_by : Reader → ℕ → Tries
+abbrev pub tries_by : PacedReader → ℕ → Tries
 tries_by reader tov = record {
   first_phase = first_phase_of reader.phases;
   phase_end = phase_end_of tov reader.phases;

@@ -1,5 +1,6 @@
 //! The answers: the least ring of each member and of the group.
-ghost use Rattle.std.specs.Prelude.{◌≡◌, ◌<◌, ◌≤◌, ◌^◌, ℕ, false, None, IfOk, get_or, length, if◌then◌else◌};
+ghost use Rattle.std.specs.Prelude.{◌≡◌, ◌<◌, ◌≤◌, ◌^◌, ℕ, false, None, IfOk, get_or, length};
+ghost use Rattle.std.specs.Prelude.{if◌then◌else◌};
 ghost use Rattle.std.specs.List.{AllByRecursion};
 ghost use Rattle.reader_pace.specs.Sound.{IsReader};
 ghost use Rattle.ring_sizes.specs.declared.tries.Reached.{Reached};
@@ -13,10 +14,12 @@ ghost use Rattle.tp_layout.specs.Requests.{room_of, time_out_of};
 
 use crate::reader_tries::{pace_of, rolls_over, stalls_of, tries_of};
 use crate::size_texts::time_out;
-use frame_deals::{ArrivalList, Dealt};
+use frame_deals::{Dealt, DealtList};
 use frame_view::Memory;
-use reader_pace::Reader;
-use ring_sizes::{DropRange, Pace, Reached, Stall, Tries, least_of_all, losses_of_all};
+use reader_pace::PacedReader;
+use ring_sizes::{
+    Arrival, DropRange, Reached, StallTime, Timing, Tries, least_of_all, losses_of_all,
+};
 use setup_text::Setup;
 use size_printing::{DropRanges, ReachedList, ReadFiles, SizeReport};
 use std::alloc::Global;
@@ -29,7 +32,7 @@ const TOO_MANY: usize = 1 << 60;
 pub(crate) fn answers_of(
     alloc: Global,
     setup: &Setup,
-    reader: &Reader,
+    reader: &PacedReader,
     dealt: &Dealt,
     files: ReadFiles,
 ) -> Result<SizeReport, Memory>
@@ -71,9 +74,9 @@ pub(crate) fn answers_of(
 fn least_rings(
     alloc: Global,
     room: u32,
-    pace: &Pace,
+    pace: &Timing,
     tries: &Tries,
-    stalls: &[Stall],
+    stalls: &[StallTime],
     dealt: &Dealt,
 ) -> Result<ReachedList, Memory>
     requires tried { AreTried pace.now tries.now }
@@ -94,10 +97,10 @@ fn least_rings(
 /// The least ring of a member, and the first phase and beginning at which it is needed.
 fn least_ring(
     room: u32,
-    pace: &Pace,
+    pace: &Timing,
     tries: &Tries,
-    stalls: &[Stall],
-    arrivals: &ArrivalList,
+    stalls: &[StallTime],
+    arrivals: &DealtList,
     end: u64,
 ) -> Result<Reached, Memory>
     requires tried { AreTried pace.now tries.now }
@@ -106,20 +109,29 @@ fn least_ring(
     ensures { IfOk result (IsFirstMost tries.now (least_by room
         (record { pace = pace.now; stalls = stalls.now; end = end }) arrivals.now)) }
 {
+    let arrivals = counted(arrivals)?;
+    Ok(least_of_all(room, pace, tries, stalls, arrivals, end))
+}
+
+/// What a member is given, as a pass takes it.
+fn counted(arrivals: &DealtList) -> Result<&[Arrival], Memory>
+    ensures same { IfOk result (result.now ≡ arrivals.now) }
+    ensures few { IfOk result (length result.now < 2 ^ 60) }
+{
     // No memory holds so many.
     if TOO_MANY <= arrivals.len() {
         return Err(Memory);
     }
-    Ok(least_of_all(room, pace, tries, stalls, arrivals.as_slice(), end))
+    Ok(arrivals.as_slice())
 }
 
 /// The fewest and the most packets that the setup's own ring of each member drops.
 fn drop_ranges(
     alloc: Global,
     shape: &Shape,
-    pace: &Pace,
+    pace: &Timing,
     tries: &Tries,
-    stalls: &[Stall],
+    stalls: &[StallTime],
     dealt: &Dealt,
 ) -> Result<DropRanges, Memory>
     requires tried { AreTried pace.now tries.now }
@@ -140,10 +152,10 @@ fn drop_ranges(
 /// The fewest and the most packets that a member's ring drops.
 fn drop_range(
     shape: &Shape,
-    pace: &Pace,
+    pace: &Timing,
     tries: &Tries,
-    stalls: &[Stall],
-    arrivals: &ArrivalList,
+    stalls: &[StallTime],
+    arrivals: &DealtList,
     end: u64,
 ) -> Result<DropRange, Memory>
     requires tried { AreTried pace.now tries.now }
@@ -152,12 +164,9 @@ fn drop_range(
     ensures { IfOk result (IsDropRange (room_of shape.now) shape.now.block_nr
         (record { pace = pace.now; stalls = stalls.now; end = end }) tries.now arrivals.now) }
 {
-    // No memory holds so many.
-    if TOO_MANY <= arrivals.len() {
-        return Err(Memory);
-    }
+    let arrivals = counted(arrivals)?;
     let (room, blocks) = (shape.room(), shape.block_nr());
-    Ok(losses_of_all(room, blocks, pace, tries, stalls, arrivals.as_slice(), end))
+    Ok(losses_of_all(room, blocks, pace, tries, stalls, arrivals, end))
 }
 
 /// The greatest of some rings, and of those that are as great the one at the first phase and

@@ -10,8 +10,8 @@ ghost use Rattle.tap_sizes.specs.Tried.{unanswered_by, unanswered_pace};
 use crate::Unanswered;
 use fanout_group::{Mode, Plan};
 use frame_view::Memory;
-use reader_pace::{Beginnings, Phases, Reader};
-use ring_sizes::{Pace, Stall, Tries};
+use reader_pace::{Beginnings, Pace, PacedReader, Phases, Stall};
+use ring_sizes::{StallTime, Timing, Tries};
 use std::alloc::Global;
 
 /// The flag of rollover (`PACKET_FANOUT_FLAG_ROLLOVER` of linux/if_packet.h).
@@ -23,7 +23,7 @@ const MILLISECOND: u64 = 1_000_000;
 const SECOND: u64 = 1_000_000_000;
 
 /// Why the program can't answer a reader yet, if it can't.
-pub(crate) fn unanswered(reader: &Reader) -> Option<Unanswered>
+pub(crate) fn unanswered(reader: &PacedReader) -> Option<Unanswered>
     ensures { result ≡ unanswered_by reader.now }
 {
     if reader.slots {
@@ -43,17 +43,17 @@ pub(crate) fn rolls_over(plan: &Plan) -> bool
 }
 
 /// Why the program can't answer a pace yet, if it can't.
-fn unanswered_pace(pace: reader_pace::Pace) -> Option<Unanswered>
+fn unanswered_pace(pace: Pace) -> Option<Unanswered>
     ensures { result ≡ unanswered_pace pace }
 {
     match pace {
-        reader_pace::Pace::Poll(_) => Some(Unanswered::Poll),
-        reader_pace::Pace::Pause(_) | reader_pace::Pace::Blocks(_) => None,
+        Pace::Poll(_) => Some(Unanswered::Poll),
+        Pace::Pause(_) | Pace::Blocks(_) => None,
     }
 }
 
 /// When the timer ticks and a reader makes its steps, at phase 0 and beginning 0.
-pub(crate) fn pace_of(pace: reader_pace::Pace, tov: u32) -> Pace
+pub(crate) fn pace_of(pace: Pace, tov: u32) -> Timing
     requires sound { IsPace pace }
     requires answered { unanswered_pace pace ≡ None }
     ensures pace { pace_of tov pace ≡ Some result }
@@ -62,7 +62,7 @@ pub(crate) fn pace_of(pace: reader_pace::Pace, tov: u32) -> Pace
     ensures parts { (0 < result.parts) × (result.parts ≤ 8 * result.span) }
 {
     match pace {
-        reader_pace::Pace::Pause(period) => Pace {
+        Pace::Pause(period) => Timing {
             tov,
             phase: 0,
             span: u64::from(period) * MILLISECOND,
@@ -70,7 +70,7 @@ pub(crate) fn pace_of(pace: reader_pace::Pace, tov: u32) -> Pace
             start: 0,
             takes_all: true,
         },
-        reader_pace::Pace::Blocks(count) => Pace {
+        Pace::Blocks(count) => Timing {
             tov,
             phase: 0,
             span: SECOND,
@@ -78,12 +78,12 @@ pub(crate) fn pace_of(pace: reader_pace::Pace, tov: u32) -> Pace
             start: 0,
             takes_all: false,
         },
-        reader_pace::Pace::Poll(_) => unreachable!(),
+        Pace::Poll(_) => unreachable!(),
     }
 }
 
 /// The phases and the beginnings of a reader that are tried.
-pub(crate) fn tries_of(reader: &Reader, tov: u32) -> Tries
+pub(crate) fn tries_of(reader: &PacedReader, tov: u32) -> Tries
     requires reader { (cpus : ℕ) × IsReader cpus tov reader.now }
     requires answered { unanswered_pace reader.now.pace ≡ None }
     requires blocks { reader.now.slots ≡ false }
@@ -134,7 +134,7 @@ fn first_from(beginnings: Beginnings) -> u32
 }
 
 /// The beginning after the last that is tried.
-fn from_end(pace: reader_pace::Pace, beginnings: Beginnings) -> u32
+fn from_end(pace: Pace, beginnings: Beginnings) -> u32
     requires pace { IsPace pace }
     requires beginnings { AreBeginnings pace beginnings }
     ensures { result ≡ from_end_of pace beginnings }
@@ -146,14 +146,14 @@ fn from_end(pace: reader_pace::Pace, beginnings: Beginnings) -> u32
 }
 
 /// How many whole milliseconds are below the period of a reader.
-fn beginnings_below(pace: reader_pace::Pace) -> u32
+fn beginnings_below(pace: Pace) -> u32
     requires { IsPace pace }
     ensures { result ≡ beginnings_below pace }
 {
     match pace {
-        reader_pace::Pace::Pause(period) => period,
-        reader_pace::Pace::Poll(_) => 1,
-        reader_pace::Pace::Blocks(count) => {
+        Pace::Pause(period) => period,
+        Pace::Poll(_) => 1,
+        Pace::Blocks(count) => {
             let count = u64::from(count);
             ((999 + count) / count) as u32
         }
@@ -161,7 +161,7 @@ fn beginnings_below(pace: reader_pace::Pace) -> u32
 }
 
 /// The stalls of a reader, in nanoseconds.
-pub(crate) fn stalls_of(alloc: Global, reader: &Reader) -> Result<Vec<Stall>, Memory>
+pub(crate) fn stalls_of(alloc: Global, reader: &PacedReader) -> Result<Vec<StallTime>, Memory>
     ensures { IfOk result (λ stalls. stalls.items ≡ stalls_of reader.now.stalls) }
 {
     let mut stalls = Vec::with_capacity(alloc, reader.stalls.len())?;
@@ -172,11 +172,11 @@ pub(crate) fn stalls_of(alloc: Global, reader: &Reader) -> Result<Vec<Stall>, Me
 }
 
 /// A stall in nanoseconds.
-fn stall_of(stall: reader_pace::Stall) -> Stall
+fn stall_of(stall: Stall) -> StallTime
     ensures from { result.from ≡ stall.from * 1000000 }
     ensures length { result.length ≡ stall.length * 1000000 }
 {
-    Stall {
+    StallTime {
         from: u64::from(stall.from) * MILLISECOND,
         length: u64::from(stall.length) * MILLISECOND,
     }

@@ -28,12 +28,12 @@ use pace_laws::{
     the_greatest_of_all_passes_is_the_least_ring_of_the_group,
     the_greatest_of_the_passes_is_the_least_ring,
 };
-use reader_pace::Reader;
+use reader_pace::PacedReader;
 use run_reports::RingKind;
 use setup_text::Job;
 use std::alloc::Global;
 use tap_outside::{Store, Word};
-use tap_reading::Stop;
+use tap_reading::LoadError;
 use tp_layout::a_shape_is_sound;
 
 /// Finds what the words ask for. The store is only read.
@@ -69,14 +69,14 @@ fn search_names<S: Store>(
 }
 
 /// What is found where there are no setup and filter.
-fn stopped(stop: Stop) -> Result<SizeFinding, Memory>
+fn stopped(stop: LoadError) -> Result<SizeFinding, Memory>
     ensures { result ≡ finding_of_stop stop }
 {
     match stop {
-        Stop::Unread => Ok(SizeFinding::Unread),
-        Stop::Setup(error) => Ok(SizeFinding::BadSetup(error)),
-        Stop::Text(error) => Ok(SizeFinding::BadFilter(error)),
-        Stop::Memory => Err(Memory),
+        LoadError::Unread => Ok(SizeFinding::Unread),
+        LoadError::Setup(error) => Ok(SizeFinding::BadSetup(error)),
+        LoadError::Text(error) => Ok(SizeFinding::BadFilter(error)),
+        LoadError::Memory => Err(Memory),
     }
 }
 
@@ -116,7 +116,7 @@ fn reader_stopped(stop: ReaderStop) -> Result<SizeFinding, Memory>
 fn search_captures<S: Store>(
     alloc: Global,
     job: &Job,
-    reader: &Reader,
+    reader: &PacedReader,
     store: &mut S,
 ) -> Result<SizeFinding, Memory>
     requires setup { IsSetup job.now.setup }
@@ -139,7 +139,7 @@ fn search_captures<S: Store>(
 fn measure(
     alloc: Global,
     job: &Job,
-    reader: &Reader,
+    reader: &PacedReader,
     reads: CpuReads,
 ) -> Result<SizeFinding, Memory>
     requires setup { IsSetup job.now.setup }

@@ -13,18 +13,18 @@ ghost use Rattle.tp_layout.specs.Requests.{time_out_of};
 use crate::asked_sizes::AskedSizes;
 use crate::reader_stops::ReaderStop;
 use bpf_filter::Program;
-use reader_pace::{Reader, read_reader};
+use reader_pace::{PacedReader, read_reader};
 use setup_text::{Command, Job, Setup};
 use std::alloc::Global;
 use tap_outside::{Store, Word};
-use tap_reading::{Stop, load_filter, load_setup, read_text};
+use tap_reading::{LoadError, load_filter, load_setup, read_text};
 
 /// Reads the setup, as `replay` takes it, and the filter that it names.
 pub(crate) fn load_size_job<S: Store>(
     alloc: Global,
     asked: AskedSizes<'_>,
     store: &mut S,
-) -> Result<Job, Stop>
+) -> Result<Job, LoadError>
     requires { AreMeantToSize (Some (size_named asked.setup.now asked.reader.now))
         (S.seen store.old) }
     ensures job { IfOk result (IsJobRead (S.seen store.old) (S.seen store.new)
@@ -53,7 +53,7 @@ fn load_program<S: Store>(
     alloc: Global,
     store: &mut S,
     filter: Option<&Word>,
-) -> Result<Option<Program>, Stop>
+) -> Result<Option<Program>, LoadError>
     requires { IfSome filter (λ name. IsTrue ((S.seen store.old).to_read name.now)) }
     ensures program { IfOk result (IsProgramRead (S.seen store.old) (S.seen store.new)
         (option_map (λ word. word.now) filter.entry)) }
@@ -76,7 +76,7 @@ pub(crate) fn load_reader<S: Store>(
     store: &mut S,
     name: &[u8],
     setup: &Setup,
-) -> Result<Reader, ReaderStop>
+) -> Result<PacedReader, ReaderStop>
     requires name { IsTrue ((S.seen store.old).to_read name.now) }
     requires setup { IsSetup setup.now }
     ensures reader { IfOk result (λ reader. ReadsAs (reader_for setup.now)

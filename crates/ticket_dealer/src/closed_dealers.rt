@@ -5,12 +5,15 @@ ghost use Rattle.ticket_dealer.specs.Seats.{AreDealt, IsAt, IsSeatOf, RisesIn, a
 
 use crate::dealer::TICKETS;
 use crate::knowledge::Hand;
-use crate::plays::{EachOnce, Gathers};
+use crate::plays::{EachTicketOnce, GatherStep};
 use crate::{Dealer, DealerSeat};
 use atomic_table::{Seat, Shared};
 
 /// One seat of the table that represents all of these.
-fn gather(shared: &Shared<(), Hand, u64, EachOnce>, mut seats: Vec<DealerSeat>) -> Seat<(), Hand>
+fn gather(
+    shared: &Shared<(), Hand, u64, EachTicketOnce>,
+    mut seats: Vec<DealerSeat>,
+) -> Seat<(), Hand>
     requires table { 0 < shared.now.table_id.words }
     requires some { 0 < length seats.items }
     requires own { AllByRecursion (IsAt shared.now.table_id) seats.items }
@@ -26,7 +29,7 @@ fn gather(shared: &Shared<(), Hand, u64, EachOnce>, mut seats: Vec<DealerSeat>) 
     let mut all = seat;
     while let Some(other) = seats.pop() {
         let DealerSeat { seat } = other;
-        shared.join_seat::<Gathers>(&mut all, seat);
+        shared.join_seat::<GatherStep>(&mut all, seat);
     }
     all
 }

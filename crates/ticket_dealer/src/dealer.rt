@@ -2,7 +2,7 @@
 ghost use Rattle.std.specs.Prelude.{◌≡◌};
 
 use crate::knowledge::Hand;
-use crate::plays::EachOnce;
+use crate::plays::EachTicketOnce;
 use atomic_table::{Shared, Table};
 use std::alloc::Global;
 use std::marker::Model;
@@ -17,7 +17,7 @@ pub(crate) const LIVE: usize = 1;
 #[derive(Drop)]
 pub struct Dealer {
     /// The two words, under the rule that each number is drawn once.
-    pub(crate) table: Table<(), Hand, u64, EachOnce, Global>,
+    pub(crate) table: Table<(), Hand, u64, EachTicketOnce, Global>,
 }
 
 impl Model for Dealer {
@@ -38,7 +38,7 @@ impl Model for Dealer {
 
 impl Dealer {
     /// Its table. The type says that it is under the rule of which `the_dealing_holds` speaks.
-    pub fn table(&self) -> &Shared<(), Hand, u64, EachOnce>
+    pub fn table(&self) -> &Shared<(), Hand, u64, EachTicketOnce>
         ensures table { result.now.table_id ≡ self.now.id }
         ensures feeders { result.now.key ≡ self.now.feeders }
     {

@@ -5,7 +5,7 @@ ghost use Rattle.ticket_dealer.specs.Deals.{IsDealing};
 ghost use Rattle.ticket_dealer.specs.declared.knowledge.Hand.{Hand};
 
 use crate::knowledge::Hand;
-use crate::plays::EachOnce;
+use crate::plays::EachTicketOnce;
 use atomic_table::TableRule;
 
 /// What a dealer's table keeps between any two steps: each number below the ticket word was drawn
@@ -13,5 +13,5 @@ use atomic_table::TableRule;
 /// the number of feeders.
 pub fn the_dealing_holds()
     ensures { (feeders : ℕ) (table : State (Unit {0}) Hand) →
-        ⟦<EachOnce as TableRule<(), Hand, u64>>⟧.holds feeders table → IsDealing feeders table }
+        ⟦<EachTicketOnce as TableRule<(), Hand, u64>>⟧.holds feeders table → IsDealing feeders table }
 {}

@@ -15,4 +15,4 @@ pub use dealer::Dealer;
 pub use dealer_seat::DealerSeat;
 pub use knowledge::Hand;
 pub use laws::the_dealing_holds;
-pub use plays::EachOnce;
+pub use plays::EachTicketOnce;

@@ -4,7 +4,7 @@ ghost use Rattle.ticket_dealer.specs.Hands.{fresh, unmade};
 ghost use Rattle.ticket_dealer.specs.Seats.{dealer_of, fresh_seat, fresh_seats};
 
 use crate::knowledge::Hand;
-use crate::plays::{EachOnce, MakesFeeder, MakesOther};
+use crate::plays::{EachTicketOnce, FeederStep, OtherStep};
 use crate::{Dealer, DealerSeat};
 use atomic_table::{Seat, Shared, Table};
 use frame_view::Memory;
@@ -15,7 +15,7 @@ const OTHERS: usize = 9;
 
 /// The seats of the feeders after the first one, which is the first feeder's and makes the others.
 fn make_feeders(
-    shared: &Shared<(), Hand, u64, EachOnce>,
+    shared: &Shared<(), Hand, u64, EachTicketOnce>,
     first: &mut Seat<(), Hand>,
     count: usize,
     seats: &mut Vec<DealerSeat>,
@@ -28,7 +28,7 @@ fn make_feeders(
         (seats.new.items ≡ seats.old.items ++ replicate count (fresh_seat dealer 1)) }
 {
     for _ in 0..count {
-        let seat = shared.split_seat::<MakesFeeder>(first);
+        let seat = shared.split_seat::<FeederStep>(first);
         seats.push(DealerSeat { seat })?;
     }
     Ok(())
@@ -36,7 +36,7 @@ fn make_feeders(
 
 /// The seats that belong to no feeder.
 fn make_others(
-    shared: &Shared<(), Hand, u64, EachOnce>,
+    shared: &Shared<(), Hand, u64, EachTicketOnce>,
     first: &mut Seat<(), Hand>,
     seats: &mut Vec<DealerSeat>,
 ) -> Result<(), Memory>
@@ -48,7 +48,7 @@ fn make_others(
         (seats.new.items ≡ seats.old.items ++ replicate 9 (fresh_seat dealer 0)) }
 {
     for _ in 0..OTHERS {
-        let seat = shared.split_seat::<MakesOther>(first);
+        let seat = shared.split_seat::<OtherStep>(first);
         seats.push(DealerSeat { seat })?;
     }
     Ok(())

@@ -8,57 +8,57 @@ use crate::knowledge::Hand;
 use atomic_table::{Join, Play, Split, TableRule};
 
 /// Each number below the ticket word is drawn once.
-pub struct EachOnce;
+pub struct EachTicketOnce;
 
-impl TableRule<(), Hand, u64> for EachOnce {
+impl TableRule<(), Hand, u64> for EachTicketOnce {
     ghost holds = { Dealt };
 
     ghost first = { opening };
 }
 
 /// A feeder's seat is made from the first one.
-pub struct MakesFeeder;
+pub struct FeederStep;
 
-impl Split<Hand> for MakesFeeder {
+impl Split<Hand> for FeederStep {
     ghost left = { without_feeder };
 
     ghost right = { feeder_of };
 }
 
 /// A seat that belongs to no feeder is made from the first one.
-pub struct MakesOther;
+pub struct OtherStep;
 
-impl Split<Hand> for MakesOther {
+impl Split<Hand> for OtherStep {
     ghost left = { without_other };
 
     ghost right = { other_of };
 }
 
 /// A ticket is drawn.
-pub struct Draws;
+pub struct TicketStep;
 
-impl Play<(), Hand> for Draws {
+impl Play<(), Hand> for TicketStep {
     ghost then = { Drew };
 }
 
 /// A feeder has ended.
-pub struct Ends;
+pub struct EndStep;
 
-impl Play<(), Hand> for Ends {
+impl Play<(), Hand> for EndStep {
     ghost then = { Ended };
 }
 
 /// A look at the number of live feeders.
-pub struct Looks;
+pub struct CountStep;
 
-impl Play<(), Hand> for Looks {
+impl Play<(), Hand> for CountStep {
     ghost then = { Saw };
 }
 
 /// A seat takes in another.
-pub struct Gathers;
+pub struct GatherStep;
 
-impl Join<Hand> for Gathers {
+impl Join<Hand> for GatherStep {
     ghost both = { joined };
 
     ghost spent = { spent };

@@ -5,7 +5,7 @@ ghost use Rattle.ticket_dealer.specs.Seats.{AreLive, IsSeatOf, has_drawn, has_en
 ghost use Rattle.ticket_dealer.specs.Tickets.{AllBelow};
 
 use crate::dealer::{LIVE, TICKETS};
-use crate::plays::{Draws, Ends, Looks};
+use crate::plays::{CountStep, EndStep, TicketStep};
 use crate::{Dealer, DealerSeat};
 
 impl Dealer {
@@ -21,7 +21,7 @@ impl Dealer {
     {
         self.table
             .shared
-            .fetch_add::<Draws>(&mut seat.seat, TICKETS, 1)
+            .fetch_add::<TicketStep>(&mut seat.seat, TICKETS, 1)
     }
 
     /// Lowers the number of live feeders by one. The seat is a feeder's and hasn't called this
@@ -32,7 +32,9 @@ impl Dealer {
 
         ensures ended { seat.new ≡ has_ended seat.old }
     {
-        self.table.shared.fetch_sub::<Ends>(&mut seat.seat, LIVE, 1);
+        self.table
+            .shared
+            .fetch_sub::<EndStep>(&mut seat.seat, LIVE, 1);
     }
 
     /// Loads the number of live feeders: all of them less the calls of `done` so far.
@@ -43,6 +45,6 @@ impl Dealer {
         ensures live { AreLive seat.old result }
         ensures falls { result ≤ seat.old.live }
     {
-        self.table.shared.load::<Looks>(&mut seat.seat, LIVE)
+        self.table.shared.load::<CountStep>(&mut seat.seat, LIVE)
     }
 }

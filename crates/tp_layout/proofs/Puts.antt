@@ -1,7 +1,8 @@
 -- Bytes written over others, one piece after another.
 use Rattle.std.proofs.Common.{◌≡◌, ℕ, zero, suc, ◌+◌, ◌-◌, ◌≤◌, List, [], ◌∷◌, ◌++◌, length, take, drop, replicate, refl, sym}
 use Rattle.std.proofs.Common.{ap, ◌∙◌, arith, append_assoc}
-use Rattle.std.proofs.lemmas.List.{length-append, length-take, length-drop, length-replicate, take_at, take-take, take-append-le, drop_at, drop-drop}
+use Rattle.std.proofs.lemmas.List.{length-append, length-take, length-drop, length-replicate, take_at, take-take}
+use Rattle.std.proofs.lemmas.List.{take-append-le, drop_at, drop-drop}
 use Rattle.std.proofs.lemmas.List.{take-append-drop, replicate-append-replicate}
 use Rattle.byteorder.specs.Endian.{little_bytes}
 use Rattle.byteorder.specs.Numbers.{length-bytes_low_first}
@@ -193,7 +194,8 @@ packet_put at next packet old zeros one two three four five fits e0 e1 e2 e3 e4 
     let text = (((header ++ eight) ++ address) ++ sixteen) ++ packet.bytes in
     p5.is
     ∙ ap (put at text) e0
-    ∙ zeros_after at (at + (need - 8)) 8 (need - (82 + snap)) text old (omega arith) (omega arith) (omega (arith, h5)) (omega arith)
+    ∙ zeros_after at (at + (need - 8)) 8 (need - (82 + snap)) text old (omega arith) (omega arith) (omega (arith, h5))
+    (omega arith)
     ∙ ap (λ (xs : List ℕ). put at xs old)
     (regroup header eight address sixteen packet.bytes padding
     ∙ sym (rw (packet_rows-bytes, bytes_of-zeros) refl))

@@ -1,5 +1,7 @@
 //! The fixed numbers of a block, of `linux/if_packet.h` unless said otherwise.
 
+use ring_model::PACKET_HEADER;
+
 /// TPACKET_V3.
 pub(crate) const VERSION: u32 = 2;
 
@@ -7,7 +9,7 @@ pub(crate) const VERSION: u32 = 2;
 pub(crate) const DESCRIPTOR: u32 = 48;
 
 /// The place of a packet's data in its header, which `tp_mac` says; this project's own choice.
-pub(crate) const MAC: u16 = 82;
+pub(crate) const MAC: u16 = PACKET_HEADER as u16;
 
 /// The place of what follows an Ethernet header, which `tp_net` says.
 pub(crate) const NET: u16 = 96;

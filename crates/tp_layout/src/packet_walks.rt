@@ -10,12 +10,9 @@ use crate::fields::u32_at;
 use crate::link_addresses::link_address_at;
 use crate::packet_refs::{PacketRef, packet_at, tag_at};
 use frame_view::{ByteList, Memory, Packet, Piece};
-use ring_model::need;
+use ring_model::{PACKET_HEADER, need};
 use std::alloc::Global;
 use std::marker::Model;
-
-/// The bytes of a packet's header and link address, which come before its data.
-const PACKET_HEADER: usize = 82;
 
 /// The packets of a block, read in place. Contracts see it as the list of the packets that are
 /// left.
@@ -115,12 +112,16 @@ fn data_of(room: Vec<u8>, count: u32, bytes: &[u8]) -> Result<Vec<u8>, Memory>
     let mut data = room;
     data.clear();
     // Each packet has a header beside its data, so this is enough for all of it.
-    data.reserve(bytes.len().saturating_sub(count as usize * PACKET_HEADER))?;
+    data.reserve(
+        bytes
+            .len()
+            .saturating_sub(count as usize * PACKET_HEADER as usize),
+    )?;
     let mut rest = bytes;
     let mut left = count;
     while left > 0 {
         let snap = u32_at(rest, 12);
-        let (_, behind) = rest.split_at(PACKET_HEADER);
+        let (_, behind) = rest.split_at(PACKET_HEADER as usize);
         let (captured, _) = behind.split_at(snap as usize);
         data.extend_from_slice(captured)?;
         let (_, tail) = rest.split_at(need(snap) as usize);

@@ -6,9 +6,9 @@ use mathlib.Core.Option.{none}
 use Rattle.atomic_table.specs.Table.{Me, step, rest, Allows}
 use Rattle.atomic_table.specs.declared.shared.Seat.{Seat}
 use Rattle.turn_lock.specs.declared.knowledge.Knows.{Knows}
-use Rattle.turn_lock.specs.declared.knowledge.Place.{Place}
-use Rattle.turn_lock.specs.declared.knowledge.Stage.{Stage}
-use Rattle.turn_lock.specs.declared.knowledge.Stage.TheVariants.{Idle, Inside}
+use Rattle.turn_lock.specs.declared.knowledge.LockSeat.{LockSeat}
+use Rattle.turn_lock.specs.declared.knowledge.SeatStage.{SeatStage}
+use Rattle.turn_lock.specs.declared.knowledge.SeatStage.TheVariants.{Idle, Inside}
 use Rattle.turn_lock.specs.Histories.{IsTurn, Adds}
 use Rattle.turn_lock.specs.SeatKnowledge.{fresh_place, seated, with_ticket, with_last, entered, left}
 use Rattle.turn_lock.specs.Seats.{LockValue, SeatValue, place_of, fresh_seat, outside}
@@ -19,29 +19,29 @@ use Rattle.turn_lock.proofs.TurnEnds.{leaves}
 
 module _ {E V : Type 0} where
   -- a seat that isn't in its turn is idle
-  pub idle_of : (stage : Stage) (seen : List E) (carried : List (ℕ × Option V)) → Holds stage carried
+  pub idle_of : (stage : SeatStage) (seen : List E) (carried : List (ℕ × Option V)) → Holds stage carried
       → turn_in stage seen ≡ None → (stage ≡ Idle) × (carried ≡ [])
   idle_of Idle seen carried holds none_is = (refl, holds)
   idle_of Inside seen carried holds none_is = absurd (cc)
 
   -- a seat that is in its turn is inside
-  pub inside_of : (stage : Stage) (seen before : List E) (carried : List (ℕ × Option V)) → Holds stage carried
+  pub inside_of : (stage : SeatStage) (seen before : List E) (carried : List (ℕ × Option V)) → Holds stage carried
       → turn_in stage seen ≡ Some before → (stage ≡ Inside) × (seen ≡ before) × (carried ≡ (0, None) ∷ [])
   inside_of Idle seen before carried holds some_is = absurd (cc)
   inside_of Inside seen before carried holds some_is = (refl, ap (λ (o : Option (List E)). unwrap_or o before) some_is, holds)
 
 module _ {E : Type 0} where
-  pub number_last : (entries : List E) (places : List (Place E)) → number_in (with_last entries places) ≡ number_in places
+  pub number_last : (entries : List E) (places : List (LockSeat E)) → number_in (with_last entries places) ≡ number_in places
   number_last entries [] = refl
   number_last entries (p ∷ places) = refl
 
-  pub drawn_last : (entries : List E) (places : List (Place E)) → drawn_in (with_last entries places) ≡ drawn_in places
+  pub drawn_last : (entries : List E) (places : List (LockSeat E)) → drawn_in (with_last entries places) ≡ drawn_in places
   drawn_last entries [] = refl
   drawn_last entries (p ∷ places) = refl
 
 module _ {V E B : Type 0} (stored : V → List E) where
   -- a seat that has left, as its owner sees it
-  pub left_value : (old new : Seat (Option V) (Knows E B)) (p : Place E) (x : V) → new.table_id ≡ old.table_id
+  pub left_value : (old new : Seat (Option V) (Knows E B)) (p : LockSeat E) (x : V) → new.table_id ≡ old.table_id
       → new.me ≡ (left old.me.0 (stored x), []) → old.me.0.places ≡ p ∷ []
       → seat_value new ≡ outside (seat_value old) (stored x)
   left_value old new p x table me one k = record {
@@ -50,13 +50,13 @@ module _ {V E B : Type 0} (stored : V → List E) where
     base = ap (λ (m : Me (Option V) (Knows E B)). m.0.base) me k;
     first = ap (λ (m : Me (Option V) (Knows E B)). m.0.first) me k;
     last = (ap (λ (m : Me (Option V) (Knows E B)). last_in m.0.places) me
-        ∙ ap (λ (z : List (Place E)). last_in (with_last (stored x) z)) one) k;
+        ∙ ap (λ (z : List (LockSeat E)). last_in (with_last (stored x) z)) one) k;
     entered = (ap (λ (m : Me (Option V) (Knows E B)). drawn_in m.0.places) me ∙ drawn_last (stored x) old.me.0.places) k;
     turn = ap (λ (m : Me (Option V) (Knows E B)). turn_in m.0.stage m.0.seen) me k;
   }
 
   -- it is as seats are between two calls
-  pub left_seat : (old new : Seat (Option V) (Knows E B)) (p : Place E) (x : V) (ticket : ℕ) → IsSeat old ticket
+  pub left_seat : (old new : Seat (Option V) (Knows E B)) (p : LockSeat E) (x : V) (ticket : ℕ) → IsSeat old ticket
       → new.me ≡ (left old.me.0 (stored x), []) → IsSeat new ticket
   left_seat old new p x ticket ok me = record {
     represented = record (ok.represented) { last = stored x };
@@ -89,7 +89,7 @@ module _ {V E B : Type 0} (stored : V → List E) where
 
 module _ {V E B : Type 0} (stored : V → List E) (base : V → B) (may_add : B → ℕ → E → Bool) (b : B) (f : List E) (n : ℕ) where
   -- a seat that has its value back may leave
-  pub leaves_from : (slots id : ℕ) (old me : Me (Option V) (Knows E B)) (p : Place E) (x : V) (known : B) (before : List E)
+  pub leaves_from : (slots id : ℕ) (old me : Me (Option V) (Knows E B)) (p : LockSeat E) (x : V) (known : B) (before : List E)
       (number word : ℕ) → me ≡ (old.0, (0, Some x) ∷ []) → old.0.places ≡ p ∷ [] → p.number ≡ number → old.0.stage ≡ Inside
       → old.0.seen ≡ before → old.0.base ≡ Some known → base x ≡ known → Adds (may_add known) number before (stored x)
       → word ≡ old.0.ticket + 1
@@ -136,14 +136,14 @@ module _ {V E B : Type 0} where
       → seat.me.0.places ≡ place_of (seat_value seat) ∷ []
   places_seat seat ticket ok =
       ok.one
-      ∙ sym (ap (λ (z : List (Place E)). record { number = number_in z; last = last_in z; drawn = drawn_in z } ∷ []) ok.one)
+      ∙ sym (ap (λ (z : List (LockSeat E)). record { number = number_in z; last = last_in z; drawn = drawn_in z } ∷ []) ok.one)
 
   -- the seats that are left, and those that were taken in with the last of them
   pub places_with : (seats : List (SeatValue E B)) (x : SeatValue E B) (seat : Seat (Option V) (Knows E B)) (ticket : ℕ)
-      (places : List (Place E)) → IsSeat seat ticket → seat_value seat ≡ x
+      (places : List (LockSeat E)) → IsSeat seat ticket → seat_value seat ≡ x
       → map place_of seats ++ (seat.me.0.places ++ places) ≡ map place_of (seats ++ x ∷ []) ++ places
   places_with seats x seat ticket places ok is =
-      ap (λ (z : List (Place E)). map place_of seats ++ (z ++ places))
+      ap (λ (z : List (LockSeat E)). map place_of seats ++ (z ++ places))
       (places_seat seat ticket ok ∙ ap (λ (z : SeatValue E B). place_of z ∷ []) is)
       ∙ sym (append_assoc (map place_of seats) (place_of x ∷ []) places)
-      ∙ ap (λ (z : List (Place E)). z ++ places) (sym (map-append place_of seats (x ∷ [])))
+      ∙ ap (λ (z : List (LockSeat E)). z ++ places) (sym (map-append place_of seats (x ∷ [])))

@@ -5,7 +5,7 @@ use lib.ListN.{get_elem?}
 use Rattle.atomic_table.specs.Table.{State}
 use Rattle.history.proofs.Lists.{at_below, past_end}
 use Rattle.turn_lock.specs.declared.knowledge.Knows.{Knows}
-use Rattle.turn_lock.specs.declared.knowledge.Place.{Place}
+use Rattle.turn_lock.specs.declared.knowledge.LockSeat.{LockSeat}
 use Rattle.turn_lock.specs.History.{IsHistory}
 use Rattle.turn_lock.specs.Turns.{Turns}
 use Rattle.turn_lock.proofs.Histories.{two_same, tickets_below, history_goes_on, one_holder}
@@ -19,7 +19,8 @@ module _ {V E B : Type 0} (stored : V → List E) (base : V → B) (may_add : B 
       r.value_is
 
   -- that one is the ticket of the seat that is inside
-  waits : (s : State (Option V) (Knows E B)) (r : Turns stored base may_add b f n s) (i j k : ℕ) (v : Knows E B) (p : Place E)
+  waits : (s : State (Option V) (Knows E B)) (r : Turns stored base may_add b f n s) (i j k : ℕ) (v : Knows E B)
+      (p : LockSeat E)
       → get_elem? s.views j ≡ some v → get_elem? v.places k ≡ some p → length r.added ≤ i → get_elem? r.owners i ≡ some p.number
       → v.ticket ≡ i
   waits s r i j k v p at here late mine = let below = at_below r.owners i p.number mine in ⊎_elim
@@ -30,7 +31,7 @@ module _ {V E B : Type 0} (stored : V → List E) (base : V → B) (may_add : B 
       let number : p.number ≡ has.0.0.number = two_same r.owners i p.number has.0.0.number mine
       (subst (λ (z : ℕ). get_elem? r.owners z ≡ some has.0.0.number) is has.0.2) in
       let seat : j ≡ m = sym (r.each_place j k v p at here).lies ∙ ap r.seat_of number
-      ∙ (r.each_place m 0 w has.0.0 out.2.2 (ap (λ (z : List (Place E)). get_elem? z 0) has.0.1)).lies in
+      ∙ (r.each_place m 0 w has.0.0 out.2.2 (ap (λ (z : List (LockSeat E)). get_elem? z 0) has.0.1)).lies in
       ap (λ (z : Knows E B). z.ticket)
       (some-injective v w (sym at ∙ ap (λ (z : ℕ). get_elem? s.views z) seat ∙ out.2.2)) ∙ is)
       r.value_is

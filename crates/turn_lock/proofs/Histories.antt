@@ -8,9 +8,9 @@ use Rattle.atomic_table.specs.Table.{State}
 use Rattle.history.proofs.Lists.{at_below, item_at}
 use Rattle.history.proofs.Totals.{total_times}
 use Rattle.turn_lock.specs.declared.knowledge.Knows.{Knows}
-use Rattle.turn_lock.specs.declared.knowledge.Place.{Place}
-use Rattle.turn_lock.specs.declared.knowledge.Stage.{Stage}
-use Rattle.turn_lock.specs.declared.knowledge.Stage.TheVariants.{Idle, Inside}
+use Rattle.turn_lock.specs.declared.knowledge.LockSeat.{LockSeat}
+use Rattle.turn_lock.specs.declared.knowledge.SeatStage.{SeatStage}
+use Rattle.turn_lock.specs.declared.knowledge.SeatStage.TheVariants.{Idle, Inside}
 use Rattle.turn_lock.specs.Histories.{all_added, IsTurn, GoesOn}
 use Rattle.turn_lock.specs.SeatKnowledge.{parts_of, drawn_of, all_drawn}
 use Rattle.turn_lock.specs.Turns.{HasTicket, PlaceOk, Turns}
@@ -24,7 +24,7 @@ pub passed : (m n a b : ℕ) → m ≢ n → cond (eqb m n) a b ≡ b
 passed m n a b other = ap (λ (z : Bool). cond z a b) (ne_eqb m n other)
 
 -- an idle seat isn't inside
-pub idle_not_inside : (stage : Stage) → stage ≡ Idle → stage ≡ Inside → ⊥
+pub idle_not_inside : (stage : SeatStage) → stage ≡ Idle → stage ≡ Inside → ⊥
 idle_not_inside stage idle inside = let never : Idle ≡ Inside = sym idle ∙ inside in absurd (cc)
 
 module _ {A : Type 0} where
@@ -39,7 +39,7 @@ module _ {A : Type 0} where
 
 module _ {E B : Type 0} {b : B} {f : List E} {owners : List ℕ} {added : List (List E)} {seat_of : ℕ → ℕ} {made j : ℕ} where
   -- a place whose seat of the table has moved on
-  pub place_moves : {v w : Knows E B} {p : Place E} → PlaceOk b f owners added seat_of made j v p → w.base ≡ v.base
+  pub place_moves : {v w : Knows E B} {p : LockSeat E} → PlaceOk b f owners added seat_of made j v p → w.base ≡ v.base
       → w.first ≡ v.first → PlaceOk b f owners added seat_of made j w p
   place_moves ok base first = record {
     base_is = base ∙ ok.base_is;
@@ -56,7 +56,7 @@ module _ {E B : Type 0} {b : B} {f : List E} {owners : List ℕ} {added : List (
   }
 
   -- a place whose seat has another number in the table
-  pub place_lies : {v : Knows E B} {p : Place E} (seats : ℕ → ℕ) (more k : ℕ) → PlaceOk b f owners added seat_of made j v p
+  pub place_lies : {v : Knows E B} {p : LockSeat E} (seats : ℕ → ℕ) (more k : ℕ) → PlaceOk b f owners added seat_of made j v p
       → seats p.number ≡ k → made ≤ more → PlaceOk b f owners added seats more k v p
   place_lies seats more k ok lies above = record {
     base_is = ok.base_is;
@@ -101,7 +101,8 @@ module _ {V E B : Type 0} (stored : V → List E) (base : V → B) (may_add : B 
       omega (arith, long, below, behind, each)
 
   -- the history continues each seat's last list
-  pub history_goes_on : (j k : ℕ) (v : Knows E B) (p : Place E) → get_elem? s.views j ≡ some v → get_elem? v.places k ≡ some p
+  pub history_goes_on : (j k : ℕ) (v : Knows E B) (p : LockSeat E) → get_elem? s.views j ≡ some v
+      → get_elem? v.places k ≡ some p
       → GoesOn (may_add b) p.number p.last (f ++ all_added r.added)
   history_goes_on j k v p at here = let ok = r.each_place j k v p at here in let before : List E =
       all_added (take ok.since r.added) in let more : List E = all_added (drop ok.since r.added) in (
@@ -122,6 +123,6 @@ module _ {V E B : Type 0} (stored : V → List E) (base : V → B) (may_add : B 
       let number : mine.0.number ≡ yours.0.number =
       two_same r.owners w.ticket mine.0.number yours.0.number
       (subst (λ (z : ℕ). get_elem? r.owners z ≡ some mine.0.number) same mine.2) yours.2 in
-      let a = (r.each_place i 0 v mine.0 at (ap (λ (z : List (Place E)). get_elem? z 0) mine.1)).lies in
-      let c = (r.each_place j 0 w yours.0 to (ap (λ (z : List (Place E)). get_elem? z 0) yours.1)).lies in
+      let a = (r.each_place i 0 v mine.0 at (ap (λ (z : List (LockSeat E)). get_elem? z 0) mine.1)).lies in
+      let c = (r.each_place j 0 w yours.0 to (ap (λ (z : List (LockSeat E)). get_elem? z 0) yours.1)).lies in
       sym a ∙ ap r.seat_of number ∙ c

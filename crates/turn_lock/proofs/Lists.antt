@@ -6,7 +6,7 @@ use Rattle.std.proofs.lemmas.Bool.{false_from_ne_true}
 use Rattle.std.proofs.lemmas.List.Elements.{filter-append}
 use mathlib.Core.Option.{some, some-ne-none}
 use lib.ListN.{get_elem?}
-use Rattle.turn_lock.specs.declared.knowledge.Place.{Place}
+use Rattle.turn_lock.specs.declared.knowledge.LockSeat.{LockSeat}
 use Rattle.turn_lock.specs.Histories.{times, all_added, IsTurn, ByOthers, GoesOn, own}
 use Rattle.turn_lock.specs.SeatKnowledge.{all_drawn}
 
@@ -30,14 +30,14 @@ times_none number (x ∷ owners) none = let here = times_else number x (λ e. no
 
 module _ {E : Type 0} where
   -- each seat has few tickets, so all together have at most that bound times the number of seats
-  pub few_drawn : (places : List (Place E))
-      → ((i : ℕ) (place : Place E) → get_elem? places i ≡ some place → place.drawn ≤ 2 ^ 32)
+  pub few_drawn : (places : List (LockSeat E))
+      → ((i : ℕ) (place : LockSeat E) → get_elem? places i ≡ some place → place.drawn ≤ 2 ^ 32)
       → all_drawn places ≤ length places * 2 ^ 32
   few_drawn [] each = omega arith
   few_drawn (p ∷ places) each = let here = each zero p refl in let rest =
       few_drawn places (λ i place at. each (suc i) place at) in omega (arith, here, rest)
 
-  pub drawn_join : (xs ys : List (Place E)) → all_drawn (xs ++ ys) ≡ all_drawn xs + all_drawn ys
+  pub drawn_join : (xs ys : List (LockSeat E)) → all_drawn (xs ++ ys) ≡ all_drawn xs + all_drawn ys
   drawn_join [] ys = omega arith
   drawn_join (x ∷ xs) ys = let rest = drawn_join xs ys in omega (arith, rest)
 

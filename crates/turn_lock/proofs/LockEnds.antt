@@ -11,8 +11,8 @@ use Rattle.atomic_table.specs.Table.{State, Final, Seen}
 use Rattle.atomic_table.proofs.Lists.{at_map}
 use Rattle.history.proofs.Totals.{total_both, total_one}
 use Rattle.turn_lock.specs.declared.knowledge.Knows.{Knows}
-use Rattle.turn_lock.specs.declared.knowledge.Place.{Place}
-use Rattle.turn_lock.specs.declared.knowledge.Stage.TheVariants.{Idle, Inside}
+use Rattle.turn_lock.specs.declared.knowledge.LockSeat.{LockSeat}
+use Rattle.turn_lock.specs.declared.knowledge.SeatStage.TheVariants.{Idle, Inside}
 use Rattle.turn_lock.specs.Histories.{times, all_added, GoesOn}
 use Rattle.turn_lock.specs.SeatKnowledge.{parts_of, drawn_of, all_drawn}
 use Rattle.turn_lock.specs.Seats.{SeatValue, entered_by, place_of}
@@ -122,7 +122,7 @@ module _ {V E B : Type 0} (stored : V → List E) (base : V → B) (may_add : B 
               ));
           each_seat = all_items (HasTurns (may_add b) turns (stored x)) seats (λ k seat here.
               let there : get_elem? v.places k ≡ some (place_of seat) =
-              ap (λ (z : List (Place E)). get_elem? z k) are ∙ at_map place_of seats k seat here in
+              ap (λ (z : List (LockSeat E)). get_elem? z k) are ∙ at_map place_of seats k seat here in
               let ok = r.each_place id k v (place_of seat) at there in (
                 from_times seat.number r.owners r.added even ∙ sym ok.drawn_is,
                 subst (λ (z : List E). GoesOn (may_add b) seat.number seat.last z) (sym home.2)

@@ -12,9 +12,9 @@ use Rattle.atomic_table.proofs.Lists.{at_set, set_here, set_else, at_longer}
 use Rattle.history.proofs.Lists.{at_below, at_more, only_item}
 use Rattle.history.proofs.Totals.{total_set}
 use Rattle.turn_lock.specs.declared.knowledge.Knows.{Knows}
-use Rattle.turn_lock.specs.declared.knowledge.Place.{Place}
-use Rattle.turn_lock.specs.declared.knowledge.Stage.{Stage}
-use Rattle.turn_lock.specs.declared.knowledge.Stage.TheVariants.{Idle, Inside}
+use Rattle.turn_lock.specs.declared.knowledge.LockSeat.{LockSeat}
+use Rattle.turn_lock.specs.declared.knowledge.SeatStage.{SeatStage}
+use Rattle.turn_lock.specs.declared.knowledge.SeatStage.TheVariants.{Idle, Inside}
 use Rattle.turn_lock.specs.Histories.{all_added}
 use Rattle.turn_lock.specs.SeatKnowledge.{parts_of, drawn_of, fresh_place, opening, maker, newcomer}
 use Rattle.turn_lock.specs.Turns.{StageOk, PlaceOk, Turns}
@@ -43,7 +43,7 @@ module _ {E B : Type 0} {b : B} {f : List E} {owners : List ℕ} {added : List (
 
 module _ {E B : Type 0} where
   -- a seat with this stage is at the place
-  pub record Still (views : List (Knows E B)) (j : ℕ) (stage : Stage) : Type 0 where
+  pub record Still (views : List (Knows E B)) (j : ℕ) (stage : SeatStage) : Type 0 where
     pub seat : Knows E B
     pub there : get_elem? views j ≡ some seat
     pub stage_is : seat.stage ≡ stage
@@ -66,7 +66,7 @@ module _ {E B : Type 0} where
 
 module _ {E B : Type 0} (owners : List ℕ) (added : List (List E)) (history : List E) (v : Knows E B) where
   -- making a seat changes no ticket
-  pub stage_makes : (stage : Stage) → StageOk owners added history v stage → StageOk owners added history (maker v) stage
+  pub stage_makes : (stage : SeatStage) → StageOk owners added history v stage → StageOk owners added history (maker v) stage
   stage_makes Idle ok = ok
   stage_makes Inside ok = ok
 
@@ -92,7 +92,7 @@ module _ {V E B : Type 0} (stored : V → List E) (base : V → B) (may_add : B 
     each_place = λ j k v p at here. ⊎_elim (λ nothing. absurd (some-ne-none v (sym nothing)))
         (λ last. subst (λ (z : Knows E B). get_elem? z.places k ≡ some p → PlaceOk b f [] [] (λ _. 0) 1 j z p) last.1
         (λ is. let w = opening b f n in let fresh = (only_item w.places (fresh_place 0 f) p k refl is).1 in
-        subst (λ (z : Place E). PlaceOk b f [] [] (λ _. 0) 1 j w z) fresh
+        subst (λ (z : LockSeat E). PlaceOk b f [] [] (λ _. 0) 1 j w z) fresh
         (fresh_ok w 0 0 refl refl refl last.0 (omega arith) (λ i mine. some-ne-none 0 (sym mine)))) here)
         (at_more [] (opening b f n) v j at);
     each_apart = apart_more [] (opening b f n) (λ j v at. absurd (some-ne-none v (sym at)))
@@ -107,7 +107,7 @@ module _ {V E B : Type 0} (stored : V → List E) (base : V → B) (may_add : B 
   }
 
   -- the first seat makes the next one
-  pub makes : (id : ℕ) (v : Knows E B) (p : Place E) → v.places ≡ p ∷ [] → 0 < v.spare
+  pub makes : (id : ℕ) (v : Knows E B) (p : LockSeat E) → v.places ≡ p ∷ [] → 0 < v.spare
       → Splits (Turns stored base may_add b f n) id v (maker v) (newcomer v)
   makes id v p one some_spare s r at =
       let w = maker v in let u = newcomer v in let is_maker = r.each_maker id v at some_spare in let made : ℕ = r.made in
@@ -115,10 +115,10 @@ module _ {V E B : Type 0} (stored : V → List E) (base : V → B) (may_add : B 
       let views : List (Knows E B) = set s.views id w in let long : length views ≡ length s.views = length-set s.views id w in
       let below = at_below s.views id v at in
       let seats : ℕ → ℕ = λ m. cond (eqb m made) (length views) (r.seat_of m) in let ok =
-      r.each_place id 0 v p at (ap (λ (z : List (Place E)). get_elem? z 0) one) in
+      r.each_place id 0 v p at (ap (λ (z : List (LockSeat E)). get_elem? z 0) one) in
       let never : (i : ℕ) → ¬ (get_elem? r.owners i ≡ some v.next) = λ i mine. let under = r.owned i v.next mine in
       omega (arith, under, next) in
-      let old_place : (j k : ℕ) (t : Knows E B) (q : Place E) → get_elem? s.views j ≡ some t → get_elem? t.places k ≡ some q
+      let old_place : (j k : ℕ) (t : Knows E B) (q : LockSeat E) → get_elem? s.views j ≡ some t → get_elem? t.places k ≡ some q
       → PlaceOk b f r.owners r.added seats (made + 1) j t q
       = λ j k t q to here. let was = r.each_place j k t q to here in let number = was.is_made in
       place_lies seats (made + 1) j was
@@ -151,7 +151,7 @@ module _ {V E B : Type 0} (stored : V → List E) (base : V → B) (may_add : B 
             (λ last. subst (λ (z : Knows E B). get_elem? z.places k ≡ some q
             → PlaceOk b f r.owners r.added seats (made + 1) j z q) last.1
             (λ is. let fresh = (only_item u.places (fresh_place v.next v.first) q k refl is).1 in
-            subst (λ (z : Place E). PlaceOk b f r.owners r.added seats (made + 1) j u z) fresh
+            subst (λ (z : LockSeat E). PlaceOk b f r.owners r.added seats (made + 1) j u z) fresh
             (fresh_ok u v.next (length views) ok.base_is ok.first_is (chosen v.next made (length views) (r.seat_of v.next) next)
             last.0 (let g : v.next < made + 1 = omega (arith, next) in g) never)) here)
             (at_more views u t j to);

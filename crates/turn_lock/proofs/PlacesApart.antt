@@ -5,21 +5,21 @@ use lib.ListN.{get_elem?}
 use Rattle.atomic_table.proofs.Lists.{at_set}
 use Rattle.history.proofs.Lists.{at_both, at_more, only_item}
 use Rattle.turn_lock.specs.declared.knowledge.Knows.{Knows}
-use Rattle.turn_lock.specs.declared.knowledge.Place.{Place}
+use Rattle.turn_lock.specs.declared.knowledge.LockSeat.{LockSeat}
 use Rattle.turn_lock.specs.Turns.{AreApart}
 
 module _ {E : Type 0} where
-  pub apart_one : (places : List (Place E)) (place : Place E) → places ≡ place ∷ [] → AreApart places
+  pub apart_one : (places : List (LockSeat E)) (place : LockSeat E) → places ≡ place ∷ [] → AreApart places
   apart_one places place one k l p q at to same =
       (only_item places place p k one at).0 ∙ sym (only_item places place q l one to).0
 
-  pub apart_none : (places : List (Place E)) → places ≡ [] → AreApart places
+  pub apart_none : (places : List (LockSeat E)) → places ≡ [] → AreApart places
   apart_none places none_there k l p q at to same =
-      absurd (some-ne-none p (sym (subst (λ (z : List (Place E)). get_elem? z k ≡ some p) none_there at)))
+      absurd (some-ne-none p (sym (subst (λ (z : List (LockSeat E)). get_elem? z k ≡ some p) none_there at)))
 
   -- two lists that have no number in common
-  pub apart_join : (xs ys : List (Place E)) → AreApart xs → AreApart ys
-      → ((k l : ℕ) (p q : Place E) → get_elem? xs k ≡ some p → get_elem? ys l ≡ some q → p.number ≢ q.number)
+  pub apart_join : (xs ys : List (LockSeat E)) → AreApart xs → AreApart ys
+      → ((k l : ℕ) (p q : LockSeat E) → get_elem? xs k ≡ some p → get_elem? ys l ≡ some q → p.number ≢ q.number)
       → AreApart (xs ++ ys)
   apart_join xs ys mine yours apart k l p q at to same = ⊎_elim
       (λ here. ⊎_elim

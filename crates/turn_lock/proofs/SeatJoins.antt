@@ -8,9 +8,9 @@ use Rattle.atomic_table.proofs.Lists.{at_set, set_else}
 use Rattle.history.proofs.Lists.{at_both}
 use Rattle.history.proofs.Totals.{total_set}
 use Rattle.turn_lock.specs.declared.knowledge.Knows.{Knows}
-use Rattle.turn_lock.specs.declared.knowledge.Place.{Place}
-use Rattle.turn_lock.specs.declared.knowledge.Stage.{Stage}
-use Rattle.turn_lock.specs.declared.knowledge.Stage.TheVariants.{Idle, Inside}
+use Rattle.turn_lock.specs.declared.knowledge.LockSeat.{LockSeat}
+use Rattle.turn_lock.specs.declared.knowledge.SeatStage.{SeatStage}
+use Rattle.turn_lock.specs.declared.knowledge.SeatStage.TheVariants.{Idle, Inside}
 use Rattle.turn_lock.specs.Histories.{all_added}
 use Rattle.turn_lock.specs.SeatKnowledge.{parts_of, drawn_of, joined, spent}
 use Rattle.turn_lock.specs.Turns.{StageOk, PlaceOk, Turns}
@@ -21,7 +21,7 @@ use Rattle.turn_lock.proofs.TicketLooks.{idle_with}
 
 module _ {V E B : Type 0} (stored : V → List E) (base : V → B) (may_add : B → ℕ → E → Bool) (b : B) (f : List E) (n : ℕ) where
   -- an idle seat takes in another
-  pub joins : (id : ℕ) (v : Knows E B) (other : ℕ) (w : Knows E B) (p : Place E) → get_elem? v.places 0 ≡ some p
+  pub joins : (id : ℕ) (v : Knows E B) (other : ℕ) (w : Knows E B) (p : LockSeat E) → get_elem? v.places 0 ≡ some p
       → v.stage ≡ Idle → w.stage ≡ Idle → w.spare ≡ 0
       → Joins (Turns stored base may_add b f n) id v other w (joined v w) spent
   joins id v other w p one idle also_idle no_spare s r at apart to =
@@ -39,13 +39,13 @@ module _ {V E B : Type 0} (stored : V → List E) (base : V → B) (may_add : B 
       (ap (λ (z : Knows E B). z.stage) (some-injective t w (sym here ∙ ap (λ (z : ℕ). get_elem? s.views z) e ∙ old))
       ∙ also_idle) inside in
       set_else mid other j spent not_other ∙ (set_else s.views id j both not_id ∙ here) in
-      let mine : (k : ℕ) (q : Place E) → get_elem? v.places k ≡ some q → PlaceOk b f r.owners r.added seats r.made id both q
+      let mine : (k : ℕ) (q : LockSeat E) → get_elem? v.places k ≡ some q → PlaceOk b f r.owners r.added seats r.made id both q
       = λ k q here. let was = r.each_place id k v q at here in
       place_moves
       (place_lies seats r.made id was
       (passed (r.seat_of q.number) other id (r.seat_of q.number) (λ e. apart (sym e ∙ was.lies)) ∙ was.lies)
       (le_refl r.made)) refl refl in
-      let yours : (k : ℕ) (q : Place E) → get_elem? w.places k ≡ some q → PlaceOk b f r.owners r.added seats r.made id both q
+      let yours : (k : ℕ) (q : LockSeat E) → get_elem? w.places k ≡ some q → PlaceOk b f r.owners r.added seats r.made id both q
       = λ k q here. let was = r.each_place other k w q old here in
       place_moves (place_lies seats r.made id was (chosen (r.seat_of q.number) other id (r.seat_of q.number) was.lies)
       (le_refl r.made)) (first.base_is ∙ sym was.base_is) (first.first_is ∙ sym was.first_is) in
@@ -93,7 +93,7 @@ module _ {V E B : Type 0} (stored : V → List E) (base : V → B) (may_add : B 
             (let g : 0 ≤ length r.added = omega arith in g))
             (λ among. ⊎_elim
             (λ same. subst (λ (z : Knows E B). StageOk r.owners r.added (f ++ all_added r.added) z z.stage) same.1
-            (subst (λ (z : Stage). StageOk r.owners r.added (f ++ all_added r.added) both z) (sym idle)
+            (subst (λ (z : SeatStage). StageOk r.owners r.added (f ++ all_added r.added) both z) (sym idle)
             (idle_with stored base may_add b f n s r id v at idle)))
             (λ else. r.each_stage j t else.1)
             (at_set s.views id j both t among.1))

@@ -15,9 +15,9 @@ use Rattle.atomic_table.proofs.Lists.{at_set, set_here, set_again, at_longer, at
 use Rattle.history.proofs.Lists.{at_below, at_more, only_item}
 use Rattle.history.proofs.Totals.{total_set}
 use Rattle.turn_lock.specs.declared.knowledge.Knows.{Knows}
-use Rattle.turn_lock.specs.declared.knowledge.Place.{Place}
-use Rattle.turn_lock.specs.declared.knowledge.Stage.{Stage}
-use Rattle.turn_lock.specs.declared.knowledge.Stage.TheVariants.{Idle, Inside}
+use Rattle.turn_lock.specs.declared.knowledge.LockSeat.{LockSeat}
+use Rattle.turn_lock.specs.declared.knowledge.SeatStage.{SeatStage}
+use Rattle.turn_lock.specs.declared.knowledge.SeatStage.TheVariants.{Idle, Inside}
 use Rattle.turn_lock.specs.Histories.{all_added, GoesOn}
 use Rattle.turn_lock.specs.SeatKnowledge.{parts_of, drawn_of, all_drawn, with_ticket, entered}
 use Rattle.turn_lock.specs.Turns.{StageOk, PlaceOk, Turns}
@@ -30,7 +30,7 @@ use Rattle.turn_lock.proofs.TicketLooks.{idle_with}
 module _ {E B : Type 0} {b : B} {f : List E} {owners : List ℕ} {added : List (List E)} {seat_of : ℕ → ℕ} {made j : ℕ}
     {v : Knows E B} where
   -- the place of another seat when a ticket is drawn
-  pub place_else : {p : Place E} (number : ℕ) → length added ≤ length owners → number ≢ p.number
+  pub place_else : {p : LockSeat E} (number : ℕ) → length added ≤ length owners → number ≢ p.number
       → PlaceOk b f owners added seat_of made j v p → PlaceOk b f (owners ++ number ∷ []) added seat_of made j v p
   place_else {p} number behind other ok = record {
     base_is = ok.base_is;
@@ -50,7 +50,7 @@ module _ {E B : Type 0} {b : B} {f : List E} {owners : List ℕ} {added : List (
   }
 
   -- the place of the seat that draws it
-  pub place_draws : {p : Place E} (entries : List E) → length added ≤ length owners → p.drawn < 2 ^ 32
+  pub place_draws : {p : LockSeat E} (entries : List E) → length added ≤ length owners → p.drawn < 2 ^ 32
       → PlaceOk b f owners added seat_of made j v p
       → PlaceOk b f (owners ++ p.number ∷ []) added seat_of made j (entered v (length owners) entries)
       (record p { drawn = p.drawn + 1 })
@@ -73,14 +73,15 @@ module _ {E B : Type 0} {b : B} {f : List E} {owners : List ℕ} {added : List (
 
 module _ {E B : Type 0} (owners : List ℕ) (added : List (List E)) (history : List E) (v : Knows E B) where
   -- what another seat knows of its ticket
-  pub stage_else : (number : ℕ) (stage : Stage) → StageOk owners added history v stage
+  pub stage_else : (number : ℕ) (stage : SeatStage) → StageOk owners added history v stage
       → StageOk (owners ++ number ∷ []) added history v stage
   stage_else number Idle ok = ok
   stage_else number Inside ok = ((ok.0.0, ok.0.1, at_longer owners (number ∷ []) v.ticket ok.0.0.number ok.0.2), ok.1, ok.2)
 
 module _ {V E B : Type 0} (stored : V → List E) (base : V → B) (may_add : B → ℕ → E → Bool) (b : B) (f : List E) (n : ℕ) where
   -- the history after the draw
-  after_draw : (s : State (Option V) (Knows E B)) (r : Turns stored base may_add b f n s) (id : ℕ) (v : Knows E B) (p : Place E)
+  after_draw : (s : State (Option V) (Knows E B)) (r : Turns stored base may_add b f n s) (id : ℕ) (v : Knows E B)
+      (p : LockSeat E)
       (x : V) (word : ℕ) (homes : List (maybe.Option (Option V))) → get_elem? s.views id ≡ some v → v.places ≡ p ∷ []
       → v.stage ≡ Idle → p.drawn < 2 ^ 32 → length r.added ≡ length r.owners → stored x ≡ f ++ all_added r.added
       → homes ≡ none ∷ [] → word ≡ length r.owners + 1 → Turns stored base may_add b f n record {
@@ -90,7 +91,7 @@ module _ {V E B : Type 0} (stored : V → List E) (base : V → B) (may_add : B 
       }
   after_draw s r id v p x word homes at one idle few even seen out is =
       let w = entered v (length r.owners) (stored x) in let there : get_elem? v.places 0 ≡ some p =
-      ap (λ (z : List (Place E)). get_elem? z 0) one in let ok = r.each_place id 0 v p at there in
+      ap (λ (z : List (LockSeat E)). get_elem? z 0) one in let ok = r.each_place id 0 v p at there in
       let more : List ℕ = r.owners ++ p.number ∷ [] in let long : length more ≡ length r.owners + 1 =
       length-append r.owners (p.number ∷ []) ∙ (omega arith) in
       let behind = r.behind in let two = r.words_are in let below = at_below s.views id v at in
@@ -119,7 +120,7 @@ module _ {V E B : Type 0} (stored : V → List E) (base : V → B) (may_add : B 
         each_place = λ j k u q to here. ⊎_elim
             (λ same. let drawn = (only_item w.places (record p { drawn = p.drawn + 1 }) q k places
             (subst (λ (z : Knows E B). get_elem? z.places k ≡ some q) (sym same.1) here)).1 in
-            subst (λ (z : Place E). PlaceOk b f more r.added r.seat_of r.made j u z) drawn
+            subst (λ (z : LockSeat E). PlaceOk b f more r.added r.seat_of r.made j u z) drawn
             (subst (λ (z : Knows E B). PlaceOk b f more r.added r.seat_of r.made j z (record p { drawn = p.drawn + 1 })) same.1
             (subst (λ (z : ℕ). PlaceOk b f more r.added r.seat_of r.made z w (record p { drawn = p.drawn + 1 })) (sym same.0)
             (place_draws (stored x) behind few ok))))
@@ -155,7 +156,7 @@ module _ {V E B : Type 0} (stored : V → List E) (base : V → B) (may_add : B 
       (Drew stored base may_add (step slots 0 old next none) me)
   draws slots id old next me may idle known is_next s r wide at _ =
       let found : ℕ = get_or s.words 0 0 in let p = may.0 in let first : get_elem? me.0.places 0 ≡ some p =
-      ap (λ (z : List (Place E)). get_elem? z 0) may.1 in let ok = r.each_place id 0 me.0 p at first in
+      ap (λ (z : List (LockSeat E)). get_elem? z 0) may.1 in let ok = r.each_place id 0 me.0 p at first in
       let is : found ≡ length r.owners = r.tickets in dite (ℕ_discrete found old)
       (λ hit. let sooner = idle_with stored base may_add b f n s r id me.0 at idle in let behind = r.behind in
       let even : length r.added ≡ length r.owners = omega (arith, sooner, behind, known, hit, is) in
@@ -180,7 +181,7 @@ module _ {V E B : Type 0} (stored : V → List E) (base : V → B) (may_add : B 
               goes_on = λ q one. subst (λ (z : B). GoesOn (may_add z) q.number q.last (stored x)) (sym home.3)
                   (subst (λ (z : List E). GoesOn (may_add b) q.number q.last z) (sym home.2)
                   (history_goes_on stored base may_add b f n s r id 0 me.0 q at
-                  (ap (λ (z : List (Place E)). get_elem? z 0) one)));
+                  (ap (λ (z : List (LockSeat E)). get_elem? z 0) one)));
               few = subst (λ (z : List E). length (stored x) ≤ length z + 2 ^ 37) (sym ok.first_is)
                   (subst (λ (z : List E). length z ≤ length f + 2 ^ 37) (sym home.2)
                   (history_few stored base may_add b f n s r));

@@ -8,8 +8,8 @@ use Rattle.atomic_table.specs.Table.{State, Me, step, keeps, Allows}
 use Rattle.atomic_table.proofs.Lists.{at_set, set_else}
 use Rattle.history.proofs.Totals.{total_set}
 use Rattle.turn_lock.specs.declared.knowledge.Knows.{Knows}
-use Rattle.turn_lock.specs.declared.knowledge.Stage.{Stage}
-use Rattle.turn_lock.specs.declared.knowledge.Stage.TheVariants.{Idle, Inside}
+use Rattle.turn_lock.specs.declared.knowledge.SeatStage.{SeatStage}
+use Rattle.turn_lock.specs.declared.knowledge.SeatStage.TheVariants.{Idle, Inside}
 use Rattle.turn_lock.specs.Histories.{all_added}
 use Rattle.turn_lock.specs.SeatKnowledge.{parts_of, drawn_of, looked}
 use Rattle.turn_lock.specs.Turns.{HasTicket, StageOk, PlaceOk, Turns}
@@ -22,14 +22,14 @@ module _ {V E B : Type 0} (stored : V → List E) (base : V → B) (may_add : B 
   pub idle_with : (s : State (Option V) (Knows E B)) (r : Turns stored base may_add b f n s) (id : ℕ) (v : Knows E B)
       → get_elem? s.views id ≡ some v → v.stage ≡ Idle → v.ticket ≤ length r.added
   idle_with s r id v at idle =
-      subst (λ (z : Stage). StageOk r.owners r.added (f ++ all_added r.added) v z) idle (r.each_stage id v at)
+      subst (λ (z : SeatStage). StageOk r.owners r.added (f ++ all_added r.added) v z) idle (r.each_stage id v at)
 
   -- what a seat that is inside has
   pub inside_with : (s : State (Option V) (Knows E B)) (r : Turns stored base may_add b f n s) (id : ℕ) (v : Knows E B)
       → get_elem? s.views id ≡ some v → v.stage ≡ Inside
       → HasTicket r.owners r.added (f ++ all_added r.added) v × (v.ticket ≡ length r.added) × (v.seen ≡ f ++ all_added r.added)
   inside_with s r id v at inside =
-      subst (λ (z : Stage). StageOk r.owners r.added (f ++ all_added r.added) v z) inside (r.each_stage id v at)
+      subst (λ (z : SeatStage). StageOk r.owners r.added (f ++ all_added r.added) v z) inside (r.each_stage id v at)
 
   -- a seat that is inside is another than one that is idle
   pub inside_else : (s : State (Option V) (Knows E B)) (id : ℕ) (v w : Knows E B) → get_elem? s.views id ≡ some v
@@ -70,7 +70,7 @@ module _ {V E B : Type 0} (stored : V → List E) (base : V → B) (may_add : B 
     each_apart = apart_set s.views id w r.each_apart (r.each_apart id v at);
     each_stage = λ j u to. ⊎_elim
         (λ same. subst (λ (z : Knows E B). StageOk r.owners r.added (f ++ all_added r.added) z z.stage) same.1
-        (subst (λ (z : Stage). StageOk r.owners r.added (f ++ all_added r.added) w z) (sym idle) sooner))
+        (subst (λ (z : SeatStage). StageOk r.owners r.added (f ++ all_added r.added) w z) (sym idle) sooner))
         (λ other. r.each_stage j u other.1)
         (at_set s.views id j w u to);
     each_maker = λ j u to spare. ⊎_elim

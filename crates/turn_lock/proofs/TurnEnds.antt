@@ -12,9 +12,9 @@ use Rattle.atomic_table.proofs.Lists.{at_set}
 use Rattle.history.proofs.Lists.{at_below, at_more, only_item}
 use Rattle.history.proofs.Totals.{total_set}
 use Rattle.turn_lock.specs.declared.knowledge.Knows.{Knows}
-use Rattle.turn_lock.specs.declared.knowledge.Place.{Place}
-use Rattle.turn_lock.specs.declared.knowledge.Stage.{Stage}
-use Rattle.turn_lock.specs.declared.knowledge.Stage.TheVariants.{Idle, Inside}
+use Rattle.turn_lock.specs.declared.knowledge.LockSeat.{LockSeat}
+use Rattle.turn_lock.specs.declared.knowledge.SeatStage.{SeatStage}
+use Rattle.turn_lock.specs.declared.knowledge.SeatStage.TheVariants.{Idle, Inside}
 use Rattle.turn_lock.specs.Histories.{all_added, IsTurn, Adds}
 use Rattle.turn_lock.specs.SeatKnowledge.{parts_of, drawn_of, all_drawn, with_last, left}
 use Rattle.turn_lock.specs.Turns.{StageOk, PlaceOk, Turns}
@@ -27,7 +27,7 @@ use Rattle.turn_lock.proofs.TicketLooks.{inside_with}
 module _ {E B : Type 0} {b : B} {f : List E} {owners : List ℕ} {added : List (List E)} {seat_of : ℕ → ℕ} {made j : ℕ}
     {v : Knows E B} where
   -- the place of another seat when a turn ends
-  pub place_waits : {p : Place E} (owner : ℕ) (entries : List E) → get_elem? owners (length added) ≡ some owner
+  pub place_waits : {p : LockSeat E} (owner : ℕ) (entries : List E) → get_elem? owners (length added) ≡ some owner
       → owner ≢ p.number → PlaceOk b f owners added seat_of made j v p
       → PlaceOk b f owners (added ++ entries ∷ []) seat_of made j v p
   place_waits {p} owner entries whose other ok = let long = length-append added (entries ∷ []) in record {
@@ -50,7 +50,7 @@ module _ {E B : Type 0} {b : B} {f : List E} {owners : List ℕ} {added : List (
   }
 
   -- the place of the seat whose turn it is
-  pub place_leaves : {p : Place E} (entries stored : List E) → get_elem? owners (length added) ≡ some p.number
+  pub place_leaves : {p : LockSeat E} (entries stored : List E) → get_elem? owners (length added) ≡ some p.number
       → stored ≡ (f ++ all_added added) ++ entries → PlaceOk b f owners added seat_of made j v p
       → PlaceOk b f owners (added ++ entries ∷ []) seat_of made j (left v stored) (record p { last = stored })
   place_leaves {p} entries stored whose is ok = let more : List (List E) = added ++ entries ∷ [] in
@@ -73,8 +73,8 @@ module _ {E B : Type 0} {b : B} {f : List E} {owners : List ℕ} {added : List (
 module _ {E B : Type 0} (owners : List ℕ) (added : List (List E)) (history later : List E) (v : Knows E B) (owner : ℕ)
     (entries : List E) where
   -- what another seat knows of its ticket
-  pub stage_waits : get_elem? owners (length added) ≡ some owner → ((p : Place E) → v.places ≡ p ∷ [] → owner ≢ p.number)
-      → (stage : Stage) → StageOk owners added history v stage → StageOk owners (added ++ entries ∷ []) later v stage
+  pub stage_waits : get_elem? owners (length added) ≡ some owner → ((p : LockSeat E) → v.places ≡ p ∷ [] → owner ≢ p.number)
+      → (stage : SeatStage) → StageOk owners added history v stage → StageOk owners (added ++ entries ∷ []) later v stage
   stage_waits whose other Idle ok = let long = length-append added (entries ∷ []) in omega (arith, ok, long)
   stage_waits whose other Inside ok = let p = ok.0.0 in
       absurd
@@ -96,7 +96,8 @@ module _ {V : Type 0} where
 
 module _ {V E B : Type 0} (stored : V → List E) (base : V → B) (may_add : B → ℕ → E → Bool) (b : B) (f : List E) (n : ℕ) where
   -- the history after the turn
-  after_turn : (s : State (Option V) (Knows E B)) (r : Turns stored base may_add b f n s) (id : ℕ) (v : Knows E B) (p : Place E)
+  after_turn : (s : State (Option V) (Knows E B)) (r : Turns stored base may_add b f n s) (id : ℕ) (v : Knows E B)
+      (p : LockSeat E)
       (x : V) (entries : List E) (word : ℕ) → get_elem? s.views id ≡ some v → v.places ≡ p ∷ [] → v.stage ≡ Inside
       → base x ≡ b → stored x ≡ v.seen ++ entries → IsTurn (may_add b) p.number entries → word ≡ v.ticket + 1
       → Turns stored base may_add b f n record {
@@ -106,21 +107,21 @@ module _ {V E B : Type 0} (stored : V → List E) (base : V → B) (may_add : B 
       }
   after_turn s r id v p x entries word at one inside base_is is turn next =
       let w = left v (stored x) in let p' = record p { last = stored x } in let there : get_elem? v.places 0 ≡ some p =
-      ap (λ (z : List (Place E)). get_elem? z 0) one in let ok = r.each_place id 0 v p at there in
+      ap (λ (z : List (LockSeat E)). get_elem? z 0) one in let ok = r.each_place id 0 v p at there in
       let places : w.places ≡ p' ∷ [] = ap (with_last (stored x)) one in let mine =
       inside_with stored base may_add b f n s r id v at inside in
       let same : mine.0.0 ≡ p = (only_item v.places mine.0.0 p 0 mine.0.1 there).1 in
       let served : v.ticket ≡ length r.added = mine.1 in
       let whose : get_elem? r.owners (length r.added) ≡ some p.number =
       subst (λ (z : ℕ). get_elem? r.owners z ≡ some p.number) served
-      (mine.0.2 ∙ ap (λ (z : Place E). some z.number) same) in
+      (mine.0.2 ∙ ap (λ (z : LockSeat E). some z.number) same) in
       let all : stored x ≡ (f ++ all_added r.added) ++ entries = is ∙ ap (λ (z : List E). z ++ entries) mine.2 in
       let more : List (List E) = r.added ++ entries ∷ [] in let long : length more ≡ length r.added + 1 =
       length-append r.added (entries ∷ []) ∙ (omega arith) in
       let later : stored x ≡ f ++ all_added more =
       all ∙ append_assoc f (all_added r.added) entries ∙ ap (λ (z : List E). f ++ z) (sym (added_more r.added entries)) in
       let drawn = at_below r.owners (length r.added) p.number whose in let two = r.words_are in
-      let number_else : (j k : ℕ) (u : Knows E B) (q : Place E) → j ≢ id → get_elem? s.views j ≡ some u
+      let number_else : (j k : ℕ) (u : Knows E B) (q : LockSeat E) → j ≢ id → get_elem? s.views j ≡ some u
       → get_elem? u.places k ≡ some q → p.number ≢ q.number
       = λ j k u q other to here e. other (sym (r.each_place j k u q to here).lies ∙ ap r.seat_of (sym e) ∙ ok.lies) in record {
         owners = r.owners;
@@ -148,7 +149,7 @@ module _ {V E B : Type 0} (stored : V → List E) (base : V → B) (may_add : B 
         each_place = λ j k u q to here. ⊎_elim
             (λ same_seat. let is_q = (only_item w.places p' q k places
             (subst (λ (z : Knows E B). get_elem? z.places k ≡ some q) (sym same_seat.1) here)).1 in
-            subst (λ (z : Place E). PlaceOk b f r.owners more r.seat_of r.made j u z) is_q
+            subst (λ (z : LockSeat E). PlaceOk b f r.owners more r.seat_of r.made j u z) is_q
             (subst (λ (z : Knows E B). PlaceOk b f r.owners more r.seat_of r.made j z p') same_seat.1
             (subst (λ (z : ℕ). PlaceOk b f r.owners more r.seat_of r.made z w p') (sym same_seat.0)
             (place_leaves entries (stored x) whose all ok))))
@@ -160,7 +161,7 @@ module _ {V E B : Type 0} (stored : V → List E) (base : V → B) (may_add : B 
             (λ same_seat. subst (λ (z : Knows E B). StageOk r.owners more (f ++ all_added more) z z.stage) same_seat.1
             (let g : v.ticket ≤ length more = omega (arith, served, long) in g))
             (λ other. stage_waits r.owners r.added (f ++ all_added r.added) (f ++ all_added more) u p.number entries whose
-            (λ q only. number_else j 0 u q other.0 other.1 (ap (λ (z : List (Place E)). get_elem? z 0) only)) u.stage
+            (λ q only. number_else j 0 u q other.0 other.1 (ap (λ (z : List (LockSeat E)). get_elem? z 0) only)) u.stage
             (r.each_stage j u other.1))
             (at_set s.views id j w u to);
         each_maker = λ j u to spare. ⊎_elim
@@ -179,7 +180,7 @@ module _ {V E B : Type 0} (stored : V → List E) (base : V → B) (may_add : B 
       }
 
   -- a seat that is inside may end its turn
-  pub leaves : (slots id : ℕ) (me : Me (Option V) (Knows E B)) (p : Place E) (x : V) (word : ℕ) → me.0.places ≡ p ∷ []
+  pub leaves : (slots id : ℕ) (me : Me (Option V) (Knows E B)) (p : LockSeat E) (x : V) (word : ℕ) → me.0.places ≡ p ∷ []
       → me.0.stage ≡ Inside → me.1 ≡ (0, Some x) ∷ [] → me.0.base ≡ Some (base x)
       → Adds (may_add (base x)) p.number me.0.seen (stored x)
       → word ≡ me.0.ticket + 1 → Allows (Turns stored base may_add b f n) slots id me 1 (λ _. word)
@@ -187,7 +188,7 @@ module _ {V E B : Type 0} (stored : V → List E) (base : V → B) (may_add : B 
   leaves slots id me p x word one inside has known adds next s r wide at _ =
       let base_is : base x ≡ b =
       ap (λ (o : Option B). unwrap_or o b)
-      (sym known ∙ (r.each_place id 0 me.0 p at (ap (λ (z : List (Place E)). get_elem? z 0) one)).base_is) in (
+      (sym known ∙ (r.each_place id 0 me.0 p at (ap (λ (z : List (LockSeat E)). get_elem? z 0) one)).base_is) in (
         left me.0 (stored x),
         gives,
         tt,

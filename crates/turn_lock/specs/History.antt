@@ -6,8 +6,8 @@ use mathlib.Core.Option as maybe
 use lib.ListN.{get_elem?}
 use Rattle.atomic_table.specs.Table.{State}
 use Rattle.turn_lock.specs.declared.knowledge.Knows.{Knows}
-use Rattle.turn_lock.specs.declared.knowledge.Place.{Place}
-use Rattle.turn_lock.specs.declared.knowledge.Stage.TheVariants.{Inside}
+use Rattle.turn_lock.specs.declared.knowledge.LockSeat.{LockSeat}
+use Rattle.turn_lock.specs.declared.knowledge.SeatStage.TheVariants.{Inside}
 use Rattle.turn_lock.specs.Histories.{times, all_added, IsTurn, GoesOn}
 use Rattle.turn_lock.specs.SeatKnowledge.{drawn_of}
 
@@ -24,12 +24,12 @@ pub record IsLast {E : Type 0} (may_add : ℕ → E → Bool) (first : List E) (
 
 module _ {E B : Type 0} where
   -- the seat j of the table represents, at its place k, this seat of the lock
-  abbrev pub RepresentsSeatAt : List (Knows E B) → ℕ → ℕ → Knows E B → Place E → Type 0
+  abbrev pub RepresentsSeatAt : List (Knows E B) → ℕ → ℕ → Knows E B → LockSeat E → Type 0
   RepresentsSeatAt views j k v place =
       (get_elem? views j ≡ some v) × (get_elem? v.places k ≡ some place)
 
   -- the seat j of the table represents this seat of the lock
-  abbrev pub RepresentsSeat : List (Knows E B) → ℕ → Knows E B → Place E → Type 0
+  abbrev pub RepresentsSeat : List (Knows E B) → ℕ → Knows E B → LockSeat E → Type 0
   RepresentsSeat views j v place = (k : ℕ) × RepresentsSeatAt views j k v place
 
   -- the seat j of the table is in its turn
@@ -43,7 +43,7 @@ module _ {V E B : Type 0} (stored : V → List E) (base : V → B) where
   HasPlace b history owner table =
       ((x : V) × (table.homes ≡ some (Some x) ∷ []) × (stored x ≡ history) × (base x ≡ b)
       × (owner ≡ none))
-      ⊎ ((table.homes ≡ none ∷ []) × ((j : ℕ) × (v : Knows E B) × (place : Place E)
+      ⊎ ((table.homes ≡ none ∷ []) × ((j : ℕ) × (v : Knows E B) × (place : LockSeat E)
       × IsInside table.views j v × (v.places ≡ place ∷ []) × (owner ≡ some place.number)))
 
 module _ {V E B : Type 0} (stored : V → List E) (base : V → B) (may_add : B → ℕ → E → Bool) where
@@ -66,25 +66,25 @@ module _ {V E B : Type 0} (stored : V → List E) (base : V → B) (may_add : B 
     -- each ticket has one seat: a number is at one place of one seat of the table. A seat of the
     -- table that was joined with others has a place for each seat of the lock that was joined into
     -- it
-    pub appears_once : (i j k l : ℕ) (v w : Knows E B) (here there : Place E) →
+    pub appears_once : (i j k l : ℕ) (v w : Knows E B) (here there : LockSeat E) →
         RepresentsSeatAt table.views i k v here → RepresentsSeatAt table.views j l w there →
         here.number ≡ there.number → (i ≡ j) × (k ≡ l)
     pub each_drew :
-        (j : ℕ) (v : Knows E B) (place : Place E) → RepresentsSeat table.views j v place →
+        (j : ℕ) (v : Knows E B) (place : LockSeat E) → RepresentsSeat table.views j v place →
         (place.drawn ≡ times place.number owners) × (place.drawn ≤ 2 ^ 32)
     -- a turn that has ended added one entry at most, which its seat may add
     pub each_turn : (i number : ℕ) (entries : List E) → get_elem? owners i ≡ some number →
         get_elem? added i ≡ some entries → IsTurn (may_add b) number entries
     -- a seat has at most one ticket that hasn't ended
     pub each_waits :
-        (i j : ℕ) (v : Knows E B) (place : Place E) → RepresentsSeat table.views j v place →
+        (i j : ℕ) (v : Knows E B) (place : LockSeat E) → RepresentsSeat table.views j v place →
         length added ≤ i → get_elem? owners i ≡ some place.number → v.ticket ≡ i
     -- the value has its place
     pub value_is :
         HasPlace stored base b (f ++ all_added added) (get_elem? owners (length added)) table
     -- what each seat left the last time
     pub each_last :
-        (j : ℕ) (v : Knows E B) (place : Place E) → RepresentsSeat table.views j v place →
+        (j : ℕ) (v : Knows E B) (place : LockSeat E) → RepresentsSeat table.views j v place →
         IsLast (may_add b) f owners added place.number place.last
     -- no two seats are in their turn at once
     pub one_inside :

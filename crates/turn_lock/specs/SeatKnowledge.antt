@@ -1,26 +1,26 @@
 -- What a seat of the table knows at the start and after each step.
 use Rattle.std.specs.Prelude.{ℕ, ◌+◌, ◌-◌, List, [], ◌∷◌, ◌++◌, length, Option, Some, None}
 use Rattle.turn_lock.specs.declared.knowledge.Knows.{Knows}
-use Rattle.turn_lock.specs.declared.knowledge.Place.{Place}
-use Rattle.turn_lock.specs.declared.knowledge.Stage.TheVariants.{Idle, Inside}
+use Rattle.turn_lock.specs.declared.knowledge.LockSeat.{LockSeat}
+use Rattle.turn_lock.specs.declared.knowledge.SeatStage.TheVariants.{Idle, Inside}
 
 module _ {E : Type 0} where
   -- a seat that hasn't had a turn
-  abbrev pub fresh_place : ℕ → List E → Place E
+  abbrev pub fresh_place : ℕ → List E → LockSeat E
   fresh_place number first = record { number = number; last = first; drawn = 0 }
 
   -- it has drawn one more ticket
-  abbrev pub with_ticket : List (Place E) → List (Place E)
+  abbrev pub with_ticket : List (LockSeat E) → List (LockSeat E)
   with_ticket [] = []
   with_ticket (place ∷ places) = record place { drawn = place.drawn + 1 } ∷ places
 
   -- it has left with this list stored
-  abbrev pub with_last : List E → List (Place E) → List (Place E)
+  abbrev pub with_last : List E → List (LockSeat E) → List (LockSeat E)
   with_last entries [] = []
   with_last entries (place ∷ places) = record place { last = entries } ∷ places
 
   -- how many tickets the seats have drawn together
-  abbrev pub all_drawn : List (Place E) → ℕ
+  abbrev pub all_drawn : List (LockSeat E) → ℕ
   all_drawn [] = 0
   all_drawn (place ∷ places) = place.drawn + all_drawn places
 

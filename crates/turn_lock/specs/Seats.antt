@@ -1,7 +1,7 @@
 -- What a seat of a lock is to its owner.
 use Rattle.std.specs.Prelude.{◌≡◌, ℕ, zero, suc, ◌+◌, Bool, List, [], ◌∷◌, Option, Some, None}
 use Rattle.atomic_table.specs.Seated.{TableId}
-use Rattle.turn_lock.specs.declared.knowledge.Place.{Place}
+use Rattle.turn_lock.specs.declared.knowledge.LockSeat.{LockSeat}
 use Rattle.turn_lock.specs.Histories.{Adds}
 
 -- What contracts see of a seat: the lock that it belongs to, its number from 0, what no turn
@@ -79,5 +79,5 @@ module _ {E B : Type 0} where
   entered_by (seat ∷ seats) = seat.entered + entered_by seats
 
   -- what the table knows of a seat
-  abbrev pub place_of : SeatValue E B → Place E
+  abbrev pub place_of : SeatValue E B → LockSeat E
   place_of seat = record { number = seat.number; last = seat.last; drawn = seat.entered }

@@ -3,33 +3,33 @@ use Rattle.std.specs.Prelude.{◌≡◌, ℕ, ◌<◌, ◌^◌, List, [], ◌∷
 use Rattle.atomic_table.specs.Seated.{TableId}
 use Rattle.atomic_table.specs.declared.shared.Seat.{Seat}
 use Rattle.turn_lock.specs.declared.knowledge.Knows.{Knows}
-use Rattle.turn_lock.specs.declared.knowledge.Place.{Place}
-use Rattle.turn_lock.specs.declared.knowledge.Stage.{Stage}
-use Rattle.turn_lock.specs.declared.knowledge.Stage.TheVariants.{Idle, Inside}
+use Rattle.turn_lock.specs.declared.knowledge.LockSeat.{LockSeat}
+use Rattle.turn_lock.specs.declared.knowledge.SeatStage.{SeatStage}
+use Rattle.turn_lock.specs.declared.knowledge.SeatStage.TheVariants.{Idle, Inside}
 use Rattle.turn_lock.specs.declared.knowledge.Opening.{Opening}
 use Rattle.turn_lock.specs.Seats.{LockValue, SeatValue}
 
 module _ {E : Type 0} where
-  abbrev pub number_in : List (Place E) → ℕ
+  abbrev pub number_in : List (LockSeat E) → ℕ
   number_in [] = 0
   number_in (place ∷ places) = place.number
 
-  abbrev pub last_in : List (Place E) → List E
+  abbrev pub last_in : List (LockSeat E) → List E
   last_in [] = []
   last_in (place ∷ places) = place.last
 
-  abbrev pub drawn_in : List (Place E) → ℕ
+  abbrev pub drawn_in : List (LockSeat E) → ℕ
   drawn_in [] = 0
   drawn_in (place ∷ places) = place.drawn
 
   -- in its turn, the list that was stored when that began
-  abbrev pub turn_in : Stage → List E → Option (List E)
+  abbrev pub turn_in : SeatStage → List E → Option (List E)
   turn_in Idle seen = None
   turn_in Inside seen = Some seen
 
 module _ {V : Type 0} where
   -- between two calls a seat is idle and holds nothing, or it is inside and holds the emptied slot
-  abbrev pub Holds : Stage → List (ℕ × Option V) → Type 0
+  abbrev pub Holds : SeatStage → List (ℕ × Option V) → Type 0
   Holds Idle carried = carried ≡ []
   Holds Inside carried = carried ≡ (0, None) ∷ []
 
@@ -48,7 +48,7 @@ module _ {V E B : Type 0} where
 
   -- it represents one seat of the lock, makes no other, and has its ticket's number in hand
   pub record IsSeat (s : Seat (Option V) (Knows E B)) (ticket : ℕ) : Type 0 where
-    pub represented : Place E
+    pub represented : LockSeat E
     pub one : s.me.0.places ≡ represented ∷ []
     pub makes_none : s.me.0.spare ≡ 0
     pub ticket_is : s.me.0.ticket ≡ ticket

@@ -3,14 +3,14 @@ use Rattle.std.specs.Prelude.{◌≡◌, ◌≢◌, ℕ, ◌+◌, ◌<◌, ◌�
 use Rattle.std.specs.Prelude.{Some}
 use Rattle.atomic_table.specs.Table.{Me, Step}
 use Rattle.turn_lock.specs.declared.knowledge.Knows.{Knows}
-use Rattle.turn_lock.specs.declared.knowledge.Place.{Place}
+use Rattle.turn_lock.specs.declared.knowledge.LockSeat.{LockSeat}
 use Rattle.turn_lock.specs.Histories.{GoesOn}
 use Rattle.turn_lock.specs.SeatKnowledge.{looked, entered, left}
 
 module _ {E : Type 0} where
   -- the seat represents one of the lock's, which has drawn few tickets
-  abbrev pub MayDraw : List (Place E) → Type 0
-  MayDraw places = (place : Place E) × (places ≡ place ∷ []) × (place.drawn < 2 ^ 32)
+  abbrev pub MayDraw : List (LockSeat E) → Type 0
+  MayDraw places = (place : LockSeat E) × (places ≡ place ∷ []) × (place.drawn < 2 ^ 32)
 
 module _ {V E B : Type 0} where
   -- the ticket that is served is the number that was found
@@ -32,7 +32,7 @@ module _ {V E B : Type 0} where
     -- the value's list continues each list that the seat's places left
     pub record Takes (before : Me (Option V) (Knows E B)) (x : V) : Type 0 where
       pub base_is : before.0.base ≡ Some (base x)
-      pub goes_on : (place : Place E) → before.0.places ≡ place ∷ [] →
+      pub goes_on : (place : LockSeat E) → before.0.places ≡ place ∷ [] →
           GoesOn (may_add (base x)) place.number place.last (stored x)
       pub few : length (stored x) ≤ length before.0.first + 2 ^ 37
 

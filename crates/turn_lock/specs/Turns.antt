@@ -7,9 +7,9 @@ use mathlib.Core.Option as maybe
 use lib.ListN.{get_elem?}
 use Rattle.atomic_table.specs.Table.{State}
 use Rattle.turn_lock.specs.declared.knowledge.Knows.{Knows}
-use Rattle.turn_lock.specs.declared.knowledge.Place.{Place}
-use Rattle.turn_lock.specs.declared.knowledge.Stage.{Stage}
-use Rattle.turn_lock.specs.declared.knowledge.Stage.TheVariants.{Idle, Inside}
+use Rattle.turn_lock.specs.declared.knowledge.LockSeat.{LockSeat}
+use Rattle.turn_lock.specs.declared.knowledge.SeatStage.{SeatStage}
+use Rattle.turn_lock.specs.declared.knowledge.SeatStage.TheVariants.{Idle, Inside}
 use Rattle.turn_lock.specs.Histories.{times, all_added, IsTurn}
 use Rattle.turn_lock.specs.SeatKnowledge.{parts_of, drawn_of}
 
@@ -18,24 +18,25 @@ module _ {E B : Type 0} (owners : List ℕ) (added : List (List E)) (history : L
   -- it represents one seat, whose ticket this is
   abbrev pub HasTicket : Type 0
   HasTicket =
-      (place : Place E) × (v.places ≡ place ∷ []) × (get_elem? owners v.ticket ≡ some place.number)
+      (place : LockSeat E) × (v.places ≡ place ∷ [])
+      × (get_elem? owners v.ticket ≡ some place.number)
 
   -- a seat that is idle has found a ticket that was served once, or is; one that is inside has the
   -- ticket that is served
-  abbrev pub StageOk : Stage → Type 0
+  abbrev pub StageOk : SeatStage → Type 0
   StageOk Idle = v.ticket ≤ length added
   StageOk Inside = HasTicket × (v.ticket ≡ length added) × (v.seen ≡ history)
 
 module _ {E : Type 0} where
   -- no two of the places are those of one seat
-  abbrev pub AreApart : List (Place E) → Type 0
-  AreApart places = (k l : ℕ) (p q : Place E) → get_elem? places k ≡ some p →
+  abbrev pub AreApart : List (LockSeat E) → Type 0
+  AreApart places = (k l : ℕ) (p q : LockSeat E) → get_elem? places k ≡ some p →
       get_elem? places l ≡ some q → p.number ≡ q.number → k ≡ l
 
 -- A seat of the lock, of which the seat j of the table knows v: it has few tickets, and `last` has
 -- what the turns added up to its latest one
 pub record PlaceOk {E B : Type 0} (base : B) (first : List E) (owners : List ℕ)
-    (added : List (List E)) (seat_of : ℕ → ℕ) (made j : ℕ) (v : Knows E B) (place : Place E)
+    (added : List (List E)) (seat_of : ℕ → ℕ) (made j : ℕ) (v : Knows E B) (place : LockSeat E)
     : Type 0 where
   pub base_is : v.base ≡ Some base
   pub first_is : v.first ≡ first
@@ -79,7 +80,7 @@ module _ {V E B : Type 0} (stored : V → List E) (base : V → B) (may_add : B 
     pub owned : (i number : ℕ) → get_elem? owners i ≡ some number → number < made
     pub each_turn : (i number : ℕ) (entries : List E) → get_elem? owners i ≡ some number →
         get_elem? added i ≡ some entries → IsTurn (may_add b) number entries
-    pub each_place : (j k : ℕ) (v : Knows E B) (place : Place E) → get_elem? s.views j ≡ some v →
+    pub each_place : (j k : ℕ) (v : Knows E B) (place : LockSeat E) → get_elem? s.views j ≡ some v →
         get_elem? v.places k ≡ some place → PlaceOk b f owners added seat_of made j v place
     pub each_apart : (j : ℕ) (v : Knows E B) → get_elem? s.views j ≡ some v → AreApart v.places
     pub each_stage : (j : ℕ) (v : Knows E B) → get_elem? s.views j ≡ some v →

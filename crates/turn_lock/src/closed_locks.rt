@@ -1,12 +1,12 @@
 //! How a lock is closed.
 ghost use Rattle.std.specs.Prelude.{◌≡◌, ◌<◌, length, map, None};
 ghost use Rattle.std.specs.List.{AllByRecursion};
-ghost use Rattle.turn_lock.specs.declared.knowledge.Stage.TheVariants.{Idle};
+ghost use Rattle.turn_lock.specs.declared.knowledge.SeatStage.TheVariants.{Idle};
 ghost use Rattle.turn_lock.specs.Endings.{Ends};
 ghost use Rattle.turn_lock.specs.Seats.{IsIdleAt, IsIdleSeatOf, place_of};
 
 use crate::knowledge::{Knows, Opening};
-use crate::plays::{ByTurns, Gathers};
+use crate::plays::{ByTurns, JoinStep};
 use crate::{Kept, TurnLock, TurnSeat};
 use atomic_table::{Seat, Shared};
 
@@ -29,7 +29,7 @@ fn gather<V: Kept>(
     let mut all = seat;
     while let Some(other) = seats.pop() {
         let TurnSeat { seat, ticket: _ } = other;
-        shared.join_seat::<Gathers>(&mut all, seat);
+        shared.join_seat::<JoinStep>(&mut all, seat);
     }
     all
 }

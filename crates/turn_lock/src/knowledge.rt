@@ -3,7 +3,7 @@ use std::collections::LinkedList;
 use std::snapshot::Snapshot;
 
 /// Where a seat is.
-pub enum Stage {
+pub enum SeatStage {
     /// It has no ticket that isn't served to its end.
     Idle,
     /// Its ticket is served: it has the value.
@@ -11,7 +11,7 @@ pub enum Stage {
 }
 
 /// One of the lock's seats.
-pub struct Place<E> {
+pub struct LockSeat<E> {
     /// The seat's number, from 0.
     pub number: u64,
     /// The list that was stored when it left the last time.
@@ -27,13 +27,13 @@ pub struct Knows<E, B> {
     /// The list that was stored at first.
     pub first: LinkedList<E>,
     /// The lock's seats that it represents.
-    pub places: LinkedList<Place<E>>,
+    pub places: LinkedList<LockSeat<E>>,
     /// How many seats it may still make.
     pub spare: u64,
     /// The number of the next seat that it makes.
     pub next: u64,
     /// Where it is.
-    pub stage: Stage,
+    pub stage: SeatStage,
     /// Its ticket while it is inside; otherwise a ticket that was served once, or is.
     pub ticket: u64,
     /// The list that was stored when its turn began, while it is inside.

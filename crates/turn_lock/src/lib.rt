@@ -14,8 +14,9 @@ mod turn_lock;
 mod turn_seat;
 mod turns;
 
+pub use backoff::Backoff;
 pub use kept::Kept;
-pub use knowledge::{Knows, Opening, Place, Stage};
+pub use knowledge::{Knows, LockSeat, Opening, SeatStage};
 pub use laws::{a_turn_adds_to_its_own, own_entries_are_in_last, the_turn_history_holds};
 pub use plays::ByTurns;
 pub use turn_lock::TurnLock;

@@ -5,7 +5,7 @@ ghost use Rattle.turn_lock.specs.Seats.{fresh_seats};
 ghost use Rattle.turn_lock.specs.SeatsInside.{lock_of};
 
 use crate::knowledge::{Knows, Opening};
-use crate::plays::{ByTurns, Makes};
+use crate::plays::{ByTurns, SeatStep};
 use crate::{Kept, TurnLock, TurnSeat};
 use atomic_table::{Seat, Shared, Table};
 use frame_view::Memory;
@@ -30,7 +30,7 @@ fn make_others<V: Kept>(
         OnOk result (seats.new.items ≡ fresh_seats lock 1 count) }
 {
     for _ in 0..count {
-        let seat = shared.split_seat::<Makes>(first);
+        let seat = shared.split_seat::<SeatStep>(first);
         seats.push(TurnSeat { seat, ticket: 0 })?;
     }
     Ok(())

@@ -18,9 +18,9 @@ impl<V: Kept> TableRule<Option<V>, Knows<V::Entry, V::Base>, Opening<V>> for ByT
 }
 
 /// A seat is made from the first one.
-pub struct Makes;
+pub struct SeatStep;
 
-impl<E, B> Split<Knows<E, B>> for Makes {
+impl<E, B> Split<Knows<E, B>> for SeatStep {
     ghost left = { maker };
 
     ghost right = { newcomer };

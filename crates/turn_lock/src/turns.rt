@@ -1,14 +1,14 @@
 //! A turn: a seat enters, has the value, and leaves.
 ghost use Rattle.std.specs.Prelude.{◌≡◌, ◌+◌, ◌<◌, ◌≤◌, ◌^◌, [], ◌∷◌, length, None, MatchOption};
 ghost use Rattle.std.specs.Prelude.{IfSome};
-ghost use Rattle.turn_lock.specs.declared.knowledge.Stage.TheVariants.{Idle};
+ghost use Rattle.turn_lock.specs.declared.knowledge.SeatStage.TheVariants.{Idle};
 ghost use Rattle.turn_lock.specs.Histories.{GoesOn};
 ghost use Rattle.turn_lock.specs.Seats.{AddsIn, IsSeatOf, inside, outside};
 ghost use Rattle.turn_lock.specs.Steps.{HasLooked, HasValue, MayDraw};
 
 use crate::backoff::Backoff;
 use crate::knowledge::{Knows, Opening};
-use crate::plays::{ByTurns, Draws, Leaves, Looks};
+use crate::plays::{ByTurns, DrawStep, LeaveStep, LookStep};
 use crate::{Kept, TurnLock, TurnSeat};
 use atomic_table::{Seat, Shared};
 use std::sync::Wait;
@@ -34,11 +34,11 @@ fn poll<V: Kept>(
         (λ ticket. HasValue V.stored V.base V.may_add seat.old.me ticket seat.new.me) }
     ensures small { IfSome result (λ ticket. ticket < 2 ^ 38) }
 {
-    let served = shared.load::<Looks>(seat, SERVED);
+    let served = shared.load::<LookStep>(seat, SERVED);
     if shared.peek(TICKETS) != served {
         return None;
     }
-    let found = shared.compare_exchange::<Draws>(seat, TICKETS, served, served + 1);
+    let found = shared.compare_exchange::<DrawStep>(seat, TICKETS, served, served + 1);
     if found != served {
         return None;
     }
@@ -59,7 +59,7 @@ fn wait_turn<V: Kept, R: Wait>(
     ensures value { HasValue V.stored V.base V.may_add seat.old.me result seat.new.me }
     ensures small { result < 2 ^ 38 }
 {
-    let mut backoff = Backoff::new();
+    let mut backoff = Backoff::for_turns();
     for _ in rt.forever() {
         if let Some(ticket) = poll::<V>(shared, seat) {
             return ticket;
@@ -103,6 +103,6 @@ impl<V: Kept> TurnLock<V> {
             None => {}
             Some(_) => unreachable!(),
         }
-        shared.store::<Leaves>(&mut seat.seat, SERVED, seat.ticket + 1);
+        shared.store::<LeaveStep>(&mut seat.seat, SERVED, seat.ticket + 1);
     }
 }

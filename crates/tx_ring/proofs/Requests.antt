@@ -51,7 +51,8 @@ pub never_refused : {shape : RingRequest} {block_size frame_size blocks : ℕ} {
     → transmit_fault shape ≡ None → IsShape shape
     → block_size ≡ shape.block_size → frame_size ≡ shape.frame_size
     → blocks ≡ min shape.block_nr (4194304 / block_size)
-    → Err error ≡ answer_of (with_blocks block_size frame_size blocks) (transmit_fault (with_blocks block_size frame_size blocks))
+    → Err error ≡ answer_of (with_blocks block_size frame_size blocks)
+    (transmit_fault (with_blocks block_size frame_size blocks))
     → ⊥
 never_refused {shape} {block_size} {frame_size} {blocks} {error} none sound block frame is told =
     let both = few_blocks shape blocks sound (is ∙ ap (λ (size : ℕ). min shape.block_nr (4194304 / size)) block) in

@@ -8,7 +8,7 @@ ghost use Rattle.tx_ring.specs.Rings.{room_of};
 ghost use Rattle.tx_ring.specs.Transmission.{first_long, transmitted_of};
 
 use crate::{SendError, TxRing};
-use frame_view::{Frame, Frames, Memory, Packets};
+use frame_view::{Frame, Frames, LINK_HEADER, Memory, Packets};
 use std::alloc::Global;
 use tp_layout::{RingRequest, Shape};
 
@@ -35,9 +35,6 @@ pub(crate) struct Transmitter {
     /// The number of slots that were skipped so far.
     pub(crate) skipped: u64,
 }
-
-/// The fewest bytes of a frame that is sent: an Ethernet header.
-const LEAST: usize = 14;
 
 /// The most bytes of a ring through which a capture is sent: this project's own choice.
 const MOST: u32 = 4_194_304;
@@ -81,7 +78,7 @@ impl Transmitter {
         requires few { self.old.skipped < 2 ^ 63 }
         ensures { OnOk result (self.new ≡ with_frame self.old frame.now) }
     {
-        if frame.bytes.len() < LEAST {
+        if frame.bytes.len() < LINK_HEADER {
             return Ok(());
         }
         if self.ring.is_full() {

@@ -11,14 +11,14 @@ use Rattle.work_queue.specs.Logs.{HasDone, log, named}
 use Rattle.work_queue.specs.Passes.{HasPlaces, IsAmong, IsFound, IsHistory, PassValue, WasFetched, WasHanded, part_of, parts_of}
 use Rattle.work_queue.specs.Steps.{Tells}
 use Rattle.work_queue.specs.declared.knowledge.Log.{Log}
-use Rattle.work_queue.specs.declared.knowledge.Part.{Part}
+use Rattle.work_queue.specs.declared.knowledge.PassPart.{PassPart}
 use Rattle.work_queue.specs.declared.works.Work.{Work}
 
 -- ---- passes and their parts
 
 pub parts_more : (passes : List PassValue) (x : PassValue) → parts_of (passes ++ x ∷ []) ≡ parts_of passes ++ part_of x ∷ []
 parts_more [] x = refl
-parts_more (pass ∷ passes) x = ap (λ (parts : List Part). part_of pass ∷ parts) (parts_more passes x)
+parts_more (pass ∷ passes) x = ap (λ (parts : List PassPart). part_of pass ∷ parts) (parts_more passes x)
 
 pub as_many : (passes : List PassValue) → length (parts_of passes) ≡ length passes
 as_many [] = refl
@@ -179,21 +179,21 @@ module _ (passes : List PassValue) (left : List Work) (h : IsHistory passes left
 -- ---- passes that are joined, one after another
 
 -- the parts of a pass are those of what its owner sees
-pub joined : (passes all : List PassValue) (x : PassValue) (v : Log) (more : List Part) → all ≡ passes ++ x ∷ []
+pub joined : (passes all : List PassValue) (x : PassValue) (v : Log) (more : List PassPart) → all ≡ passes ++ x ∷ []
     → v.parts ≡ part_of x ∷ []
     → parts_of passes ++ (v.parts ++ more) ≡ parts_of all ++ more
 joined passes all x v more items is =
-    ap (λ (parts : List Part). parts_of passes ++ (parts ++ more)) is
+    ap (λ (parts : List PassPart). parts_of passes ++ (parts ++ more)) is
     ∙ sym (append_assoc (parts_of passes) (part_of x ∷ []) more)
-    ∙ ap (λ (parts : List Part). parts ++ more) (sym (parts_more passes x) ∙ ap parts_of (sym items))
+    ∙ ap (λ (parts : List PassPart). parts ++ more) (sym (parts_more passes x) ∙ ap parts_of (sym items))
 
 pub joined_first : (passes all : List PassValue) (x : PassValue) (v : Log) → all ≡ passes ++ x ∷ [] → v.parts ≡ part_of x ∷ []
     → parts_of passes ++ v.parts ≡ parts_of all
 joined_first passes all x v items is =
-    ap (λ (parts : List Part). parts_of passes ++ parts) (sym (append-nil v.parts))
+    ap (λ (parts : List PassPart). parts_of passes ++ parts) (sym (append-nil v.parts))
     ∙ joined passes all x v [] items is ∙ append-nil (parts_of all)
 
 -- what a pass that represents one knows
-pub one_part : (v : Log) (x : PassValue) (part : Part) → v ≡ log v.all (part ∷ []) [] → part ≡ part_of x
+pub one_part : (v : Log) (x : PassValue) (part : PassPart) → v ≡ log v.all (part ∷ []) [] → part ≡ part_of x
     → v.parts ≡ part_of x ∷ []
-one_part v x part is same = ap (λ (u : Log). u.parts) is ∙ ap (λ (p : Part). p ∷ []) same
+one_part v x part is same = ap (λ (u : Log). u.parts) is ∙ ap (λ (p : PassPart). p ∷ []) same

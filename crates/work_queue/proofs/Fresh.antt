@@ -6,7 +6,7 @@ use Rattle.work_queue.specs.Logs.{first_of, fresh, fresh_parts, log, rest_of}
 use Rattle.work_queue.specs.Passes.{PassValue, fresh_pass, fresh_passes}
 use Rattle.work_queue.specs.PassesInside.{one_of}
 use Rattle.work_queue.specs.declared.knowledge.Log.{Log}
-use Rattle.work_queue.specs.declared.knowledge.Part.{Part}
+use Rattle.work_queue.specs.declared.knowledge.PassPart.{PassPart}
 
 pub fresh_long : (name count : ℕ) → length (fresh_parts name count) ≡ count
 fresh_long name zero = refl
@@ -17,7 +17,7 @@ parts_push : (name count : ℕ) → fresh_parts name (suc count) ≡ fresh_parts
 parts_push name zero = let e : name ≡ name + 0 = omega arith in ap (λ (n : ℕ). fresh n ∷ []) e
 parts_push name (suc count) =
     let e : name + 1 + count ≡ name + suc count = omega arith in
-    ap (λ (parts : List Part). fresh name ∷ parts) (parts_push (name + 1) count)
+    ap (λ (parts : List PassPart). fresh name ∷ parts) (parts_push (name + 1) count)
     ∙ ap (λ (n : ℕ). fresh name ∷ (fresh_parts (name + 1) count ++ fresh n ∷ [])) e
 
 pub parts_more : (count : ℕ) → fresh_parts 0 count ++ fresh count ∷ [] ≡ fresh_parts 0 (count + 1)
@@ -50,14 +50,14 @@ parts_first name (suc more) some = let e : more ≡ suc more - 1 = omega arith i
 
 pub log_first : (v : Log) (all name left : ℕ) → v ≡ log all (fresh_parts name left) [] → 0 < left
     → v ≡ log all (fresh name ∷ fresh_parts (name + 1) (left - 1)) []
-log_first v all name left is some = is ∙ ap (λ (parts : List Part). log all parts []) (parts_first name left some)
+log_first v all name left is some = is ∙ ap (λ (parts : List PassPart). log all parts []) (parts_first name left some)
 
 -- a pass that was split into its parts
-pub same_all : (v : Log) (all : ℕ) (parts : List Part) → v ≡ log all parts [] → v ≡ log v.all parts []
+pub same_all : (v : Log) (all : ℕ) (parts : List PassPart) → v ≡ log all parts [] → v ≡ log v.all parts []
 same_all v all parts is = is ∙ ap (λ (n : ℕ). log n parts []) (sym (ap (λ (u : Log). u.all) is))
 
 -- a pass that represents one of them, as its invariant says it and as its owner sees it
-pub one_is : (u : Log) (all : ℕ) (part : Part) → u ≡ log all (part ∷ []) [] → u ≡ log u.all (one_of u.parts ∷ []) []
+pub one_is : (u : Log) (all : ℕ) (part : PassPart) → u ≡ log all (part ∷ []) [] → u ≡ log u.all (one_of u.parts ∷ []) []
 one_is u all part is = is ∙ sym (ap (λ (v : Log). log v.all (one_of v.parts ∷ []) []) is)
 
 pub value_is : (web id : WebId) (u : Log) (all name : ℕ) → web ≡ id → u ≡ log all (fresh name ∷ []) []

@@ -17,7 +17,7 @@ use Rattle.work_queue.specs.Logs.{HasDone, log, named, once_below}
 use Rattle.work_queue.specs.Steps.{Drained, Fetched, Handed, Tells}
 use Rattle.work_queue.specs.Works.{IsLawfulWork}
 use Rattle.work_queue.specs.declared.knowledge.Log.{Log}
-use Rattle.work_queue.specs.declared.knowledge.Part.{Part}
+use Rattle.work_queue.specs.declared.knowledge.PassPart.{PassPart}
 use Rattle.work_queue.specs.declared.works.Work.{Work}
 use Rattle.work_queue.proofs.Places.{below_named, fetched_other, handed_other, named_here, once_few, own_more}
 use Rattle.work_queue.proofs.Places.{place, works_more}
@@ -120,7 +120,7 @@ module _ (items : List Work) (views : List Log) (r : Happened items views) (id :
 
 -- ---- one pass, which took nothing out
 
-module _ (id all : ℕ) (part : Part) where
+module _ (id all : ℕ) (part : PassPart) where
   abbrev one : Log
   one = log all (part ∷ []) []
 
@@ -215,13 +215,13 @@ module _ (id all : ℕ) (part : Part) where
       )
 
 -- a pass may hand a work with a lawful text
-pub hands : (n id : ℕ) (v : Log) (work : Work) (part : Part) → v ≡ log v.all (part ∷ []) [] → IsLawfulWork work
+pub hands : (n id : ℕ) (v : Log) (work : Work) (part : PassPart) → v ≡ log v.all (part ∷ []) [] → IsLawfulWork work
     → Pushes Happened n id v work (Handed v work)
 hands n id v work part is lawful =
     subst (λ (u : Log). Pushes Happened n id u work (Handed u work)) (sym is) (hands_one id v.all part n work lawful)
 
 -- a pass may fetch
-pub fetches : (id : ℕ) (v : Log) (part : Part) → v ≡ log v.all (part ∷ []) [] → Pops Happened id v (Fetched v)
+pub fetches : (id : ℕ) (v : Log) (part : PassPart) → v ≡ log v.all (part ∷ []) [] → Pops Happened id v (Fetched v)
 fetches id v part is = subst (λ (u : Log). Pops Happened id u (Fetched u)) (sym is) (fetches_one id v.all part)
 
 -- ---- a pass that represents all

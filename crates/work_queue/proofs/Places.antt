@@ -7,7 +7,7 @@ use native.Mathlib.Decide.{ℕ_discrete, dec_le}
 use Rattle.history.proofs.Below.{below_yes, below_no}
 use Rattle.work_queue.specs.Histories.{IsNamed, Place, own, works_of}
 use Rattle.work_queue.specs.Logs.{HasDone, named, once_below}
-use Rattle.work_queue.specs.declared.knowledge.Part.{Part}
+use Rattle.work_queue.specs.declared.knowledge.PassPart.{PassPart}
 use Rattle.work_queue.specs.declared.works.Work.{Work}
 
 -- ---- works at places
@@ -60,11 +60,11 @@ named_up count more (p ∷ places) up all = (let by = all.0 in omega (arith, by,
 
 -- ---- names of passes
 
-pub named_both : (name : ℕ) (parts others : List Part) → named name (parts ++ others) ≡ named name parts + named name others
+pub named_both : (name : ℕ) (parts others : List PassPart) → named name (parts ++ others) ≡ named name parts + named name others
 named_both name [] others = omega arith
 named_both name (part ∷ parts) others = let rest = named_both name parts others in omega (arith, rest)
 
-pub named_here : (name : ℕ) (part : Part) (parts : List Part) → part.name ≡ name → 1 ≤ named name (part ∷ parts)
+pub named_here : (name : ℕ) (part : PassPart) (parts : List PassPart) → part.name ≡ name → 1 ≤ named name (part ∷ parts)
 named_here name part parts same = let yes : ◌≡◌ {A = ℕ} (if part.name == name then 1 else 0) 1 =
     ap (λ (b : Bool). if b then 1 else 0) (eq-eqb part.name name same) in omega (arith, yes)
 
@@ -82,7 +82,7 @@ once_few count name = dite (dec_le count name)
 
 -- ---- what passes have done, after a step of another
 
-pub handed_other : (handed gone : List Place) (by : ℕ) (work : Work) (parts : List Part) → named by parts ≡ 0
+pub handed_other : (handed gone : List Place) (by : ℕ) (work : Work) (parts : List PassPart) → named by parts ≡ 0
     → AllByRecursion (HasDone handed gone) parts
     → AllByRecursion (HasDone (handed ++ place by work ∷ []) gone) parts
 handed_other handed gone by work [] none_there all = tt
@@ -94,7 +94,7 @@ handed_other handed gone by work (part ∷ parts) none_there all =
       handed_other handed gone by work parts (omega (arith, none_there)) all.1,
     )
 
-pub fetched_other : (handed gone : List Place) (by : ℕ) (work : Work) (parts : List Part) → named by parts ≡ 0
+pub fetched_other : (handed gone : List Place) (by : ℕ) (work : Work) (parts : List PassPart) → named by parts ≡ 0
     → AllByRecursion (HasDone handed gone) parts
     → AllByRecursion (HasDone handed (gone ++ place by work ∷ [])) parts
 fetched_other handed gone by work [] none_there all = tt

@@ -13,7 +13,7 @@ use Rattle.work_queue.specs.Happened.{Happened, LogOk}
 use Rattle.work_queue.specs.Histories.{Place}
 use Rattle.work_queue.specs.Logs.{HasDone, first_of, fresh, gathered, grown, log, named, once_below, opening, rest_of, spent}
 use Rattle.work_queue.specs.declared.knowledge.Log.{Log}
-use Rattle.work_queue.specs.declared.knowledge.Part.{Part}
+use Rattle.work_queue.specs.declared.knowledge.PassPart.{PassPart}
 use Rattle.work_queue.specs.declared.works.Work.{Work}
 use Rattle.work_queue.proofs.Moves.{names_in, no_left, nothing_known, others_none, parts_in}
 use Rattle.work_queue.proofs.Places.{named_both, named_up, own_none}
@@ -111,7 +111,7 @@ grows id v some_parts has none items views r at =
           is ∙ sym one;
     }
 
-forks_two : (id all : ℕ) (part : Part) (parts : List Part)
+forks_two : (id all : ℕ) (part : PassPart) (parts : List PassPart)
     → Forks Happened id (log all (part ∷ parts) []) (log all parts []) (log all (part ∷ []) [])
 forks_two id all part parts items views r at =
     let v : Log = log all (part ∷ parts) [] in
@@ -149,7 +149,7 @@ forks_two id all part parts items views r at =
     }
 
 -- the first of the passes that one represents may leave it
-pub forks : (id : ℕ) (v : Log) (part : Part) (parts : List Part) → v ≡ log v.all (part ∷ parts) []
+pub forks : (id : ℕ) (v : Log) (part : PassPart) (parts : List PassPart) → v ≡ log v.all (part ∷ parts) []
     → Forks Happened id v (rest_of v) (first_of v)
 forks id v part parts is =
     subst (λ (u : Log). Forks Happened id u (rest_of u) (first_of u)) (sym is) (forks_two id v.all part parts)

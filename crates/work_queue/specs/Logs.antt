@@ -3,18 +3,18 @@ use Rattle.std.specs.Prelude.{◌≡◌, ℕ, zero, suc, ◌+◌, ◌==◌, nat_
 use Rattle.std.specs.Prelude.{◌++◌, take, drop}
 use Rattle.work_queue.specs.Histories.{Place, own}
 use Rattle.work_queue.specs.declared.knowledge.Log.{Log}
-use Rattle.work_queue.specs.declared.knowledge.Part.{Part}
+use Rattle.work_queue.specs.declared.knowledge.PassPart.{PassPart}
 use Rattle.work_queue.specs.declared.works.Work.{Work}
 
-abbrev pub log : ℕ → List Part → List Work → Log
+abbrev pub log : ℕ → List PassPart → List Work → Log
 log all parts left = record { all = all; parts = parts; left = left }
 
 -- a pass of this name that has done nothing
-abbrev pub fresh : ℕ → Part
+abbrev pub fresh : ℕ → PassPart
 fresh name = record { name = name; handed = []; fetched = [] }
 
 -- those of n names from this one up
-abbrev pub fresh_parts : ℕ → ℕ → List Part
+abbrev pub fresh_parts : ℕ → ℕ → List PassPart
 fresh_parts name zero = []
 fresh_parts name (suc more) = fresh name ∷ fresh_parts (name + 1) more
 
@@ -42,7 +42,7 @@ abbrev pub gathered : Log → Log → Log
 gathered v w = log v.all (w.parts ++ v.parts) v.left
 
 -- how often the name is among the passes
-abbrev pub named : ℕ → List Part → ℕ
+abbrev pub named : ℕ → List PassPart → ℕ
 named name [] = 0
 named name (part ∷ parts) = (if part.name == name then 1 else 0) + named name parts
 
@@ -51,6 +51,6 @@ abbrev pub once_below : ℕ → ℕ → ℕ
 once_below count name = if nat_lt name count then 1 else 0
 
 -- what the pass did are its places, in order
-pub record HasDone (handed gone : List Place) (part : Part) : Type 0 where
+pub record HasDone (handed gone : List Place) (part : PassPart) : Type 0 where
   pub handed_is : part.handed ≡ own part.name handed
   pub fetched_is : part.fetched ≡ own part.name gone

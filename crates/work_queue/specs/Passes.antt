@@ -4,7 +4,7 @@ use Rattle.std.specs.Prelude.{count_by}
 use Rattle.std.specs.List.{AllByRecursion}
 use Rattle.atomic_blocks.specs.Laid.{WebId}
 use Rattle.work_queue.specs.Histories.{History, Place, own}
-use Rattle.work_queue.specs.declared.knowledge.Part.{Part}
+use Rattle.work_queue.specs.declared.knowledge.PassPart.{PassPart}
 use Rattle.work_queue.specs.declared.works.Work.{Work}
 
 -- What contracts see of a queue: which it is, and how many passes it has
@@ -55,10 +55,10 @@ abbrev pub has_fetched : PassValue → Work → PassValue
 has_fetched pass work = record pass { fetched = pass.fetched ++ work ∷ []; calls = pass.calls + 1 }
 
 -- what passes did, by their names
-abbrev pub part_of : PassValue → Part
+abbrev pub part_of : PassValue → PassPart
 part_of pass = record { name = pass.name; handed = pass.handed; fetched = pass.fetched }
 
-abbrev pub parts_of : List PassValue → List Part
+abbrev pub parts_of : List PassValue → List PassPart
 parts_of [] = []
 parts_of (pass ∷ passes) = part_of pass ∷ parts_of passes
 

@@ -2,11 +2,11 @@
 use Rattle.std.specs.Prelude.{◌≡◌, [], ◌∷◌, None, List}
 use Rattle.work_queue.specs.Logs.{fresh, log}
 use Rattle.work_queue.specs.Passes.{PassValue}
-use Rattle.work_queue.specs.declared.knowledge.Part.{Part}
+use Rattle.work_queue.specs.declared.knowledge.PassPart.{PassPart}
 use Rattle.work_queue.specs.declared.passes.WorkPass.TheInside.{Inside}
 
 -- the pass that it represents
-abbrev pub one_of : List Part → Part
+abbrev pub one_of : List PassPart → PassPart
 one_of [] = fresh 0
 one_of (part ∷ parts) = part
 

@@ -5,15 +5,15 @@ use Rattle.work_queue.specs.Histories.{History, Place}
 use Rattle.work_queue.specs.Logs.{HasDone, log, named, once_below}
 use Rattle.work_queue.specs.Works.{IsLawfulWork}
 use Rattle.work_queue.specs.declared.knowledge.Log.{Log}
-use Rattle.work_queue.specs.declared.knowledge.Part.{Part}
+use Rattle.work_queue.specs.declared.knowledge.PassPart.{PassPart}
 use Rattle.work_queue.specs.declared.works.Work.{Work}
 
 -- the passes after a work was handed or fetched with the only one of them
-abbrev pub with_handed : List Part → Work → List Part
+abbrev pub with_handed : List PassPart → Work → List PassPart
 with_handed [] work = []
 with_handed (part ∷ parts) work = record part { handed = part.handed ++ work ∷ [] } ∷ parts
 
-abbrev pub with_fetched : List Part → Work → List Part
+abbrev pub with_fetched : List PassPart → Work → List PassPart
 with_fetched [] work = []
 with_fetched (part ∷ parts) work = record part { fetched = part.fetched ++ work ∷ [] } ∷ parts
 

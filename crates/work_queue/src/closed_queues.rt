@@ -7,7 +7,7 @@ ghost use Rattle.work_queue.specs.Passes.{IsHistory, IsPassAt, IsPassOf, parts_o
 ghost use Rattle.work_queue.specs.Steps.{Tells};
 
 use crate::knowledge::Log;
-use crate::plays::{Drains, EachOnce, Gathers};
+use crate::plays::{DrainStep, EachOnce, TakeInStep};
 use crate::{Work, WorkPass, WorkQueue};
 use crossbeam_queue::{RuledSegQueue, SegPass};
 use frame_view::Memory;
@@ -32,7 +32,7 @@ fn gather(
     let mut root = pass;
     while let Some(other) = passes.pop() {
         let WorkPass { pass, calls: _ } = other;
-        queue.absorb::<Gathers>(&mut root, pass);
+        queue.absorb::<TakeInStep>(&mut root, pass);
     }
     root
 }
@@ -54,7 +54,7 @@ fn drain<R: Wait>(
     let mut root = root;
     let mut left = Vec::new(alloc);
     for _ in rt.forever() {
-        let Some(work) = queue.pop_as::<Drains, R>(rt, &mut root) else {
+        let Some(work) = queue.pop_as::<DrainStep, R>(rt, &mut root) else {
             return Ok(left);
         };
         left.push(work)?;

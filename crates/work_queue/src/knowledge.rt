@@ -4,7 +4,7 @@ use crate::Work;
 use std::collections::LinkedList;
 
 /// What was handed and fetched with one of the queue's passes.
-pub struct Part {
+pub struct PassPart {
     /// The name of the pass: its number, from 0.
     pub name: u64,
     /// The works that it handed, in order.
@@ -18,7 +18,7 @@ pub struct Log {
     /// How many passes the queue has.
     pub all: u64,
     /// The passes that it represents.
-    pub parts: LinkedList<Part>,
+    pub parts: LinkedList<PassPart>,
     /// The works that it took out as the queue was closed.
     pub left: LinkedList<Work>,
 }

@@ -12,7 +12,7 @@ mod plays;
 mod queues;
 mod works;
 
-pub use knowledge::{Log, Part};
+pub use knowledge::{Log, PassPart};
 pub use laws::{all_that_was_handed_is_found, the_history_holds};
 pub use passes::WorkPass;
 pub use plays::EachOnce;

@@ -5,7 +5,7 @@ ghost use Rattle.work_queue.specs.Logs.{fresh_parts, log};
 ghost use Rattle.work_queue.specs.Passes.{fresh_passes};
 
 use crate::knowledge::Log;
-use crate::plays::{Apart, EachOnce, Grows};
+use crate::plays::{EachOnce, GrowStep, PartStep};
 use crate::{Work, WorkPass, WorkQueue};
 use crossbeam_queue::{RuledSegQueue, SegPass};
 use frame_view::Memory;
@@ -20,7 +20,7 @@ fn grow(queue: &RuledSegQueue<Work, Log, EachOnce>, root: &mut SegPass<Work, Log
     ensures grown { root.new.me.view.client ≡ log passes (fresh_parts 0 passes) [] }
 {
     for _ in 1..passes {
-        let _nobodys = queue.another::<Grows>(root);
+        let _nobodys = queue.another::<GrowStep>(root);
     }
 }
 
@@ -39,7 +39,7 @@ fn part(
 {
     let mut root = root;
     for _ in 0..passes - 1 {
-        let pass = queue.another::<Apart>(&mut root);
+        let pass = queue.another::<PartStep>(&mut root);
         made.push(WorkPass { pass, calls: 0 })?;
     }
     made.push(WorkPass {

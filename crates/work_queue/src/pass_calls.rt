@@ -3,7 +3,7 @@ ghost use Rattle.std.specs.Prelude.{◌≡◌, ◌+◌, ◌<◌, ◌^◌, length
 ghost use Rattle.work_queue.specs.Passes.{IsPassOf, has_called, has_fetched, has_handed};
 ghost use Rattle.work_queue.specs.Works.{IsLawfulWork};
 
-use crate::plays::{Fetches, Hands};
+use crate::plays::{FetchStep, HandStep};
 use crate::{Unhanded, Work, WorkPass, WorkQueue};
 use std::sync::Wait;
 
@@ -18,7 +18,7 @@ impl WorkQueue {
         ensures handed { OnOk result (pass.new ≡ has_handed pass.old work) }
         ensures unhanded { IfErr result (λ back. (back.work ≡ work) × (pass.new ≡ pass.old)) }
     {
-        match self.queue.push_as::<Hands, R>(rt, &mut pass.pass, work) {
+        match self.queue.push_as::<HandStep, R>(rt, &mut pass.pass, work) {
             Ok(()) => Ok(()),
             Err(work) => Err(Unhanded { work }),
         }
@@ -35,6 +35,6 @@ impl WorkQueue {
         ensures lawful { IfSome result IsLawfulWork }
     {
         pass.calls += 1;
-        self.queue.pop_as::<Fetches, R>(rt, &mut pass.pass)
+        self.queue.pop_as::<FetchStep, R>(rt, &mut pass.pass)
     }
 }

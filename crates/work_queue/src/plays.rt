@@ -18,57 +18,57 @@ impl Protocol<Work, Log> for EachOnce {
 }
 
 /// A pass that represents all grows by one. The other half is nobody's.
-pub struct Grows;
+pub struct GrowStep;
 
-impl Split<Log> for Grows {
+impl Split<Log> for GrowStep {
     ghost left = { grown };
 
     ghost right = { λ v. spent };
 }
 
 /// The first of the passes that one represents leaves it.
-pub struct Apart;
+pub struct PartStep;
 
-impl Split<Log> for Apart {
+impl Split<Log> for PartStep {
     ghost left = { rest_of };
 
     ghost right = { first_of };
 }
 
 /// A pass takes in another.
-pub struct Gathers;
+pub struct TakeInStep;
 
-impl Join<Log> for Gathers {
+impl Join<Log> for TakeInStep {
     ghost both = { gathered };
 
     ghost spent = { spent };
 }
 
 /// A work is handed.
-pub struct Hands;
+pub struct HandStep;
 
-impl Outcome<Work, Log> for Hands {
+impl Outcome<Work, Log> for HandStep {
     ghost then = { Handed };
 }
 
 /// A work is fetched. A poll that finds none reports nothing.
-pub struct Fetches;
+pub struct FetchStep;
 
-impl Outcome<Work, Log> for Fetches {
+impl Outcome<Work, Log> for FetchStep {
     ghost then = { Fetched };
 }
 
-impl Lesson<Work, Log> for Fetches {
+impl Lesson<Work, Log> for FetchStep {
     ghost fact = { λ v items. ⊤ };
 }
 
 /// A work is taken out as the queue is closed. A poll that finds none reports all that happened.
-pub struct Drains;
+pub struct DrainStep;
 
-impl Outcome<Work, Log> for Drains {
+impl Outcome<Work, Log> for DrainStep {
     ghost then = { Drained };
 }
 
-impl Lesson<Work, Log> for Drains {
+impl Lesson<Work, Log> for DrainStep {
     ghost fact = { Tells };
 }

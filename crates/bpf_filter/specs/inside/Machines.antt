@@ -2,22 +2,22 @@
 use Rattle.std.specs.Prelude.{ℕ, ◌-◌, ◌<◌, Bool, [], ◌∷◌}
 use Rattle.bpf_filter.specs.declared.loads.Size.{Size}
 use Rattle.bpf_filter.specs.declared.loads.Size.TheVariants.{Word, Half, Byte}
-use Rattle.bpf_filter.specs.declared.machine.Machine.{Machine}
-use Rattle.bpf_filter.specs.declared.machine.Next as code
-use Rattle.bpf_filter.specs.declared.machine.Next.TheVariants.{Answer, Go}
+use Rattle.bpf_filter.specs.declared.machine.Registers.{Registers}
+use Rattle.bpf_filter.specs.declared.machine.Jump as code
+use Rattle.bpf_filter.specs.declared.machine.Jump.TheVariants.{Answer, Go}
 use Rattle.bpf_filter.specs.Codes.{State, Next, Answers, GoesOn}
 use Rattle.bpf_filter.specs.Programs.{is_among}
 
-abbrev pub state_of : Machine → State
+abbrev pub state_of : Registers → State
 state_of machine = record { a = machine.a; x = machine.x; memory = machine.memory }
 
 -- where a step led, with the machine after it
-abbrev pub next_of : code.Next → Machine → Next
+abbrev pub next_of : code.Jump → Registers → Next
 next_of (Answer number) machine = Answers number
 next_of (Go further) machine = GoesOn (further - 1) (state_of machine)
 
 -- a step that doesn't lead to a verdict goes on by at least one instruction
-abbrev pub GoesFurther : code.Next → Type 0
+abbrev pub GoesFurther : code.Jump → Type 0
 GoesFurther (Answer number) = Unit {0}
 GoesFurther (Go further) = 0 < further
 

@@ -8,7 +8,7 @@ use Rattle.cpu_feeders.specs.Feeds.{IsFreshFeeder, IsFreshSeat}
 use Rattle.cpu_feeders.specs.Walks.{Walks}
 use Rattle.cpu_feeders.specs.declared.feeder.Feeder.{Feeder}
 use Rattle.cpu_feeders.specs.declared.timer.Timer.{Timer}
-use Rattle.cpu_feeders.specs.declared.walker.Walker.{Walker}
+use Rattle.cpu_feeders.specs.declared.walker.ReaderThread.{ReaderThread}
 use Rattle.cpu_feeders.specs.declared.worker.Worker.{Worker}
 use Rattle.cpu_feeders.specs.declared.worker.Worker.TheVariants as worker
 use Rattle.fanout_group.specs.Paths.{first_path}
@@ -40,13 +40,14 @@ first_feeds plan number (first ∷ firsts) =
     first_feed plan number first ∷ first_feeds plan (number + 1) firsts
 
 -- readers, a timer and feeders, in this order
-abbrev pub in_order : {S T : Type 0} → List (Walker T) → Timer → List (Feeder S) → List (Worker S T)
+abbrev pub in_order : {S T : Type 0} → List (ReaderThread T) → Timer → List (Feeder S)
+    → List (Worker S T)
 in_order walkers timer feeders =
     map (λ walker. worker.Walks walker) walkers
     ++ worker.Ticks timer ∷ map (λ feeder. worker.Feeds feeder) feeders
 
 -- readers whose members are numbered from this one up
-abbrev pub AreNumbered : {T : Type 0} → ℕ → List (Walker T) → Type 0
+abbrev pub AreNumbered : {T : Type 0} → ℕ → List (ReaderThread T) → Type 0
 AreNumbered number [] = ⊤
 AreNumbered number (walker ∷ walkers) = (walker.member ≡ number) × AreNumbered (number + 1) walkers
 
@@ -56,12 +57,12 @@ pub record IsMemberOf (job : Job) (lock : Lock) : Type 0 where
   pub seats : lock.seats ≡ length job.setup.cpus + 1
 
 -- a reader has the end of the ring of this member
-abbrev pub IsReaderAt : {T : Type 0} → Lock → Walker T → Type 0
+abbrev pub IsReaderAt : {T : Type 0} → Lock → ReaderThread T → Type 0
 IsReaderAt lock walker = table_numbers walker.end.id ≡ lock.base.table
 
 -- a reader of blocks of this shape that has read nothing
 pub record IsFreshReader {T : Type 0} (base_of : T → Base) (taken_by : T → List Taken)
-    (shape : RingRequest) (dealer : DealerValue) (walker : Walker T) : Type 0 where
+    (shape : RingRequest) (dealer : DealerValue) (walker : ReaderThread T) : Type 0 where
   pub shape_is : (base_of walker.taker).shape ≡ shape
   pub walks : Walks base_of taken_by (base_of walker.taker) walker
   pub seat : IsFreshOf dealer walker.seat
@@ -81,7 +82,7 @@ pub record IsDealt (feeders : ℕ) (dealer : DealerValue) (seats spare : List Se
 pub record AreFreshThreads {S T : Type 0} (base_of : T → Base) (taken_by : T → List Taken)
     (job : Job) (firsts : List (Option SourceSeen)) (takers : List T) (locks : List Lock)
     (dealer : DealerValue) (spare : List SeatValue) (workers : List (Worker S T)) : Type 0 where
-  pub walkers : List (Walker T)
+  pub walkers : List (ReaderThread T)
   pub timer : Timer
   pub feeders : List (Feeder S)
   pub workers_are : workers ≡ in_order walkers timer feeders

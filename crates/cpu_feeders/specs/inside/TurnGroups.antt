@@ -34,7 +34,8 @@ pub record MayDraw (dealer : DealerValue) (seat : SeatValue) : Type 0 where
   pub few : length seat.drawn < 2 ^ 32
 
 -- tries of an offer changed the seats: each has the notes of the tries at its member
-pub record AreTried (offer : Offer) (tries : List Try) (locks : List Lock) (before after : List Seat)
+pub record AreTried (offer : Offer) (tries : List Try) (locks : List Lock)
+    (before after : List Seat)
     : Type 0 where
   pub count : length after ≡ length before
   pub each : (member : ℕ) (lock : Lock) (member_seat : Seat) → member < length before →

@@ -2,13 +2,13 @@
 use Rattle.std.specs.Prelude.{Bool, List, [], ◌∷◌}
 use Rattle.cpu_feeders.specs.declared.feeder.Feeder.{Feeder}
 use Rattle.cpu_feeders.specs.declared.timer.Timer.{Timer}
-use Rattle.cpu_feeders.specs.declared.walker.Walker.{Walker}
+use Rattle.cpu_feeders.specs.declared.walker.ReaderThread.{ReaderThread}
 use Rattle.cpu_feeders.specs.declared.worker.Worker.{Worker}
 use Rattle.cpu_feeders.specs.declared.worker.Worker.TheVariants as worker
 
 module _ {S T : Type 0} where
   -- the reader that a worker is, if it is one
-  abbrev pub walker_in : Worker S T → List (Walker T)
+  abbrev pub walker_in : Worker S T → List (ReaderThread T)
   walker_in (worker.Walks walker) = walker ∷ []
   walker_in other = []
 

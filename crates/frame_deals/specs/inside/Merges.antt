@@ -12,7 +12,7 @@ use Rattle.fanout_group.specs.declared.modes.Mode.TheVariants.{Lb}
 use Rattle.frame_deals.specs.declared.deals.Dealt.{Dealt}
 use Rattle.frame_deals.specs.declared.mark_queue.MarkedFrame.{MarkedFrame}
 use Rattle.frame_deals.specs.declared.merge.Merge.{Merge}
-use Rattle.frame_deals.specs.declared.merge.Next.{Next}
+use Rattle.frame_deals.specs.declared.merge.NextFrame.{NextFrame}
 use Rattle.reader_pace.specs.Timelines.{Timed, feed_at, first_time, in_order, latest, sooner}
 use Rattle.receive_ring.specs.Replay.{next_ticket}
 use Rattle.ring_sizes.specs.declared.paces.Arrival.{Arrival}
@@ -101,7 +101,7 @@ abbrev pub AreAfter : ℕ → ℕ → List MarkedFrame → Type 0
 AreAfter first moment frames = AllByRecursion (λ frame. moment < moment_of first frame) frames
 
 -- the frame that comes first of all, and of those of the same moment has the lowest CPU
-pub record IsFirst (first : ℕ) (queues : List (List MarkedFrame)) (next : Next) : Type 0 where
+pub record IsFirst (first : ℕ) (queues : List (List MarkedFrame)) (next : NextFrame) : Type 0 where
   pub before : List (List MarkedFrame)
   pub frame : MarkedFrame
   pub rest : List MarkedFrame
@@ -114,17 +114,17 @@ pub record IsFirst (first : ℕ) (queues : List (List MarkedFrame)) (next : Next
   pub behind_later : AllByRecursion (AreFrom first next.moment) behind
 
 -- the frame that comes first, if one is left
-abbrev pub IsNext : ℕ → List (List MarkedFrame) → Option Next → Type 0
+abbrev pub IsNext : ℕ → List (List MarkedFrame) → Option NextFrame → Type 0
 IsNext first queues None = AllByRecursion (λ queue. queue ≡ []) queues
 IsNext first queues (Some next) = IsFirst first queues next
 
 -- the frame that comes first of those found so far and of this CPU's
-abbrev pub sooner_than : Option Next → ℕ → ℕ → Option Next
+abbrev pub sooner_than : Option NextFrame → ℕ → ℕ → Option NextFrame
 sooner_than None cpu moment = Some (record { cpu = cpu; moment = moment })
 sooner_than (Some next) cpu moment =
     if nat_le next.moment moment then Some next else Some (record { cpu = cpu; moment = moment })
 
-abbrev pub sooner_of : Option Next → ℕ → ℕ → List MarkedFrame → Option Next
+abbrev pub sooner_of : Option NextFrame → ℕ → ℕ → List MarkedFrame → Option NextFrame
 sooner_of found first cpu [] = found
 sooner_of found first cpu (frame ∷ frames) = sooner_than found cpu (moment_of first frame)
 

@@ -7,12 +7,12 @@ use Rattle.tap_outside.specs.Seen.{StoreSeen}
 use Rattle.tap_saving.specs.Files.{CanBeOutput, File}
 use Rattle.tap_saving.specs.Saves.{IsApart, NoSaveFailed}
 use Rattle.tap_saving.specs.declared.block_pieces.BlockPieces.{BlockPieces}
-use Rattle.tap_saving.specs.declared.planned_file.Content.{Content}
-use Rattle.tap_saving.specs.declared.planned_file.Content.TheVariants.{Blocks, Packets}
+use Rattle.tap_saving.specs.declared.planned_file.Origin.{Origin}
+use Rattle.tap_saving.specs.declared.planned_file.Origin.TheVariants.{Blocks, Packets}
 use Rattle.tap_saving.specs.declared.planned_file.PlannedFile.TheInside.{Inside}
 
 -- the bytes of a file, by what they come from
-abbrev pub bytes_of : Content → List ℕ
+abbrev pub bytes_of : Origin → List ℕ
 bytes_of (Packets packets) = output_of packets.now
 bytes_of (Blocks dump) = dump.now
 
@@ -22,7 +22,7 @@ left_of left =
     left.rest.now ++ (flat_map (λ piece. piece.items) left.pieces.now ++ left.last.now)
 
 -- and whether they can be made
-abbrev pub CanBeMade : Content → Type 0
+abbrev pub CanBeMade : Origin → Type 0
 CanBeMade (Packets packets) = CanBeOutput packets.now
 CanBeMade (Blocks dump) = ⊤
 

@@ -1,7 +1,7 @@
 -- What is answered from what was read of the captures.
 use Rattle.std.specs.Prelude.{◌≡◌, ℕ, ◌*◌, ◌<◌, List}
 use Rattle.reader_pace.specs.Timelines.{end_of}
-use Rattle.reader_pace.specs.declared.readers.Reader.{Reader}
+use Rattle.reader_pace.specs.declared.readers.PacedReader.{PacedReader}
 use Rattle.run_reports.specs.declared.ring_kind.RingKind.{RingKind}
 use Rattle.run_reports.specs.declared.ring_kind.RingKind.TheVariants.{Blocks}
 use Rattle.setup_text.specs.declared.jobs.Job.{Job}
@@ -16,7 +16,7 @@ use Rattle.tap_sizes.specs.declared.size_findings.SizeFinding.{SizeFinding}
 use Rattle.tap_sizes.specs.declared.size_findings.SizeFinding.TheVariants as finding
 
 -- the answers for rings of blocks
-pub record IsReportFor (job : Job) (reader : Reader) (bytes : List (List ℕ))
+pub record IsReportFor (job : Job) (reader : PacedReader) (bytes : List (List ℕ))
     (files : List ReadFile) (kind : RingKind) (unit : ℕ) (report : SizeReport) : Type 0 where
   pub files_are : report.files ≡ files
   pub kind_is : kind ≡ Blocks
@@ -25,7 +25,7 @@ pub record IsReportFor (job : Job) (reader : Reader) (bytes : List (List ℕ))
 
 -- those of captures that gave these bytes, or that their frames last too long
 abbrev pub IsMeasured :
-    Job → Reader → List (List ℕ) → List ReadFile → SizeFinding → Type 0
+    Job → PacedReader → List (List ℕ) → List ReadFile → SizeFinding → Type 0
 IsMeasured job reader bytes files (finding.TooLong told) =
     (told ≡ files) × (4294967295 * 1000000 < end_of (times_in bytes))
 IsMeasured job reader bytes files (finding.Sized kind unit report) =

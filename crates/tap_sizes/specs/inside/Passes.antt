@@ -1,13 +1,14 @@
 -- What the passes over what the members are given find.
-use Rattle.std.specs.Prelude.{◌≡◌, ℕ, ◌<◌, ◌≤◌, ◌^◌, max, Bool, true, false, List, [], ◌∷◌, All, ⊤, ◌==◌, nat_lt}
+use Rattle.std.specs.Prelude.{◌≡◌, ℕ, ◌<◌, ◌≤◌, ◌^◌, max, Bool, true, false, List, [], ◌∷◌, All, ⊤}
+use Rattle.std.specs.Prelude.{◌==◌, nat_lt}
 use Rattle.std.specs.Prelude.{if◌then◌else◌, None, Some}
 use Rattle.fanout_group.specs.Plans.{rolls_over}
 use Rattle.pace_laws.specs.Paces.{pace_of, stalls_of}
-use Rattle.reader_pace.specs.declared.readers.Reader.{Reader}
+use Rattle.reader_pace.specs.declared.readers.PacedReader.{PacedReader}
 use Rattle.ring_sizes.specs.Phases.{AreTried, IsFirstFewest, IsFirstMost, begun, drops_of, least_of}
 use Rattle.ring_sizes.specs.declared.paces.Arrival.{Arrival}
-use Rattle.ring_sizes.specs.declared.paces.Pace.{Pace}
-use Rattle.ring_sizes.specs.declared.paces.Stall.{Stall}
+use Rattle.ring_sizes.specs.declared.paces.Timing.{Timing}
+use Rattle.ring_sizes.specs.declared.paces.StallTime.{StallTime}
 use Rattle.ring_sizes.specs.declared.phase_losses.DropRange.{DropRange}
 use Rattle.ring_sizes.specs.declared.tries.Reached.{Reached}
 use Rattle.ring_sizes.specs.declared.tries.Tries.{Tries}
@@ -23,8 +24,8 @@ IsEarly arrivals = All (λ arrival. arrival.at < 2 ^ 53) arrivals
 
 -- when the timer ticks and the reader reads, and until when
 pub record Clocks : Type 0 where
-  pub pace : Pace
-  pub stalls : List Stall
+  pub pace : Timing
+  pub stalls : List StallTime
   pub end : ℕ
 
 -- the number of blocks that a pass finds at a phase and a beginning
@@ -42,7 +43,8 @@ most_by room clocks (arrivals ∷ all) phase from =
 abbrev pub AreFirstMost : ℕ → Clocks → Tries → List (List Arrival) → List Reached → Type 0
 AreFirstMost room clocks tries [] [] = ⊤
 AreFirstMost room clocks tries (arrivals ∷ all) (ring ∷ rings) =
-    IsFirstMost tries (least_by room clocks arrivals) ring × AreFirstMost room clocks tries all rings
+    IsFirstMost tries (least_by room clocks arrivals) ring
+    × AreFirstMost room clocks tries all rings
 AreFirstMost room clocks tries all rings = ⊥
 
 -- the packets that a course drops at a phase and a beginning
@@ -80,11 +82,11 @@ greatest_ring found (ring ∷ rings) =
     greatest_ring (if is_greater ring found then ring else found) rings
 
 -- the answers for members that are given these arrivals, with which a run ends at a moment
-pub record IsAnsweredBy (setup : Setup) (reader : Reader) (all : List (List Arrival))
+pub record IsAnsweredBy (setup : Setup) (reader : PacedReader) (all : List (List Arrival))
     (end : ℕ) (files : List ReadFile) (report : SizeReport) : Type 0 where
   pub files_are : report.files ≡ files
   -- the pace of the reader
-  pub pace : Pace
+  pub pace : Timing
   pub pace_is : pace_of (time_out_of setup.shape) reader.pace ≡ Some pace
   pub tried : AreTried pace (tries_by reader (time_out_of setup.shape))
   pub few : (tries_by reader (time_out_of setup.shape)).from_end ≤ 2 ^ 32

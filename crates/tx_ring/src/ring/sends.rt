@@ -12,13 +12,10 @@ use super::outgoing::Outgoing;
 use super::{Sent, TxRing};
 use crate::SendError;
 use crate::slot_fields::{AVAILABLE, WRONG_FORMAT};
-use frame_view::{Memory, Packets, Piece};
+use frame_view::{LINK_HEADER, Memory, Packets, Piece};
 use std::alloc::Global;
 use std::mem;
 use tp_layout::a_shape_is_sound;
-
-/// The fewest bytes of a frame: an Ethernet header.
-const LEAST: usize = 14;
 
 impl TxRing {
     /// Takes the requested slots in order, and appends the packet of each good one, which is
@@ -137,7 +134,7 @@ impl TxRing {
         // The requests that weren't taken are the last ones that were placed.
         let at = self.slot_of(self.placed - u64::from(self.requested() - place));
         let asked = self.slots.asked(at) as usize;
-        if self.slots.next_offset(at) == 0 && LEAST <= asked && asked <= self.room() {
+        if self.slots.next_offset(at) == 0 && LINK_HEADER <= asked && asked <= self.room() {
             Some(self.slots.frame(at))
         } else {
             None

@@ -4,7 +4,7 @@ use Rattle.cpu_feeders.proofs.OneMore.{next_all}
 use Rattle.work_queue.specs.Works.{IsLawfulWork}
 use Rattle.work_queue.specs.declared.works.Work.{Work}
 use Rattle.block_pool.specs.Pieces.{IsPieceOf}
-use Rattle.block_pool.specs.declared.pieces.Piece.{Piece}
+use Rattle.block_pool.specs.declared.pieces.DecodedPiece.{DecodedPiece}
 use Rattle.block_pool.proofs.ended_takers.decode_left.Goals as goal
 
 pub loop-work-init : goal.loop-work-init
@@ -20,8 +20,8 @@ loop-work-preserved g c =
     let next = c.in-Some.ensures.steps.0 in
     let kept = c.in_ok-keep.ensures in
     let works : List Work = inv.done.0 in
-    let more : List Piece = inv.done.1 in
-    let piece : Piece = kept.0 in
+    let more : List DecodedPiece = inv.done.1 in
+    let piece : DecodedPiece = kept.0 in
     record {
       lawful = (next_all IsLawfulWork _ _ work next inv.lawful).1;
       done = (
@@ -29,6 +29,7 @@ loop-work-preserved g c =
         more ++ piece ∷ [],
         append_assoc works (work ∷ []) _ ∙ ap (λ (ws : List Work). works ++ ws) (sym next) ∙ inv.done.2,
         all_zipped_more (IsPieceOf c.args.decoder.now.dumps) works more work piece inv.done.3 kept.1,
-        kept.2 ∙ ap (λ (ps : List Piece). ps ++ piece ∷ []) inv.done.4 ∙ append_assoc c.args.pieces.now.items more (piece ∷ []),
+        kept.2 ∙ ap (λ (ps : List DecodedPiece). ps ++ piece ∷ []) inv.done.4
+            ∙ append_assoc c.args.pieces.now.items more (piece ∷ []),
       );
     }

@@ -2,7 +2,7 @@ use Rattle.std.proofs.Common.{◌∙◌, refl, subst, sym, ℕ, Bool, List}
 use Rattle.capture_reports.specs.Feeders.{HasFed}
 use Rattle.cpu_feed.specs.Feeds.{Feeds}
 use Rattle.fanout_group.specs.Judgements.{AgreesAt}
-use Rattle.fanout_group.specs.Lenses.{lens_of}
+use Rattle.fanout_group.specs.RulesOfJudging.{judge_rules_of}
 use Rattle.member_turns.specs.Seats.{Lock}
 use Rattle.run_reports.specs.Jobs as jobs
 use Rattle.cpu_feeders.specs.inside.TurnGroups.{Draws, HasMade}
@@ -27,7 +27,7 @@ feed-requires-clause-takes g c =
 pub feeding-preserved : goal.feeding-preserved
 feeding-preserved g c =
     let was = c.feeding.invariant in
-    let agrees = subst (λ (cpu : ℕ). AgreesAt cpu (jobs.lens_of c.args.job.now) (lens_of c.rules_at-rules.result))
+    let agrees = subst (λ (cpu : ℕ). AgreesAt cpu (jobs.judge_rules_of c.args.job.now) (judge_rules_of c.rules_at-rules.result))
     (c.number.ensures ∙ sym was.cpu.number) c.rules_at-rules.ensures.agrees in
     let step = feeds_more c.args.job.now c.args.group.now.dealer.now c.rules_at-rules.result c.feeding.feed c.feed.new.self
     c.feeding.group c.feed.new.group
@@ -49,7 +49,7 @@ feeding-preserved g c =
 pub returns-clause-fed : goal.returns-clause-fed
 returns-clause-fed g c =
     let was = c.feeding.invariant in
-    let agrees = subst (λ (cpu : ℕ). AgreesAt cpu (jobs.lens_of c.args.job.now) (lens_of c.rules_at-rules.result))
+    let agrees = subst (λ (cpu : ℕ). AgreesAt cpu (jobs.judge_rules_of c.args.job.now) (judge_rules_of c.rules_at-rules.result))
     (c.number.ensures ∙ sym was.cpu.number) c.rules_at-rules.ensures.agrees in
     let out = feeds_none c.args.job.now c.args.group.now.dealer.now c.rules_at-rules.result c.feeding.feed c.feed.new.self
     c.feeding.group c.feed.new.group

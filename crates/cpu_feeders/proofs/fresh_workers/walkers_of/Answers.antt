@@ -2,7 +2,7 @@ use Rattle.std.proofs.Common.{◌≡◌, ◌∙◌, false, List, length, refl, s
 use Rattle.std.specs.List.{AllByRecursion}
 use Rattle.ticket_dealer.specs.Seats.{IsFreshOf, SeatValue}
 use Rattle.history.proofs.Lists.{all_but}
-use Rattle.cpu_feeders.specs.declared.walker.Walker.{Walker}
+use Rattle.cpu_feeders.specs.declared.walker.ReaderThread.{ReaderThread}
 use Rattle.cpu_feeders.proofs.FreshThreads.{end_in, taker_in}
 use Rattle.cpu_feeders.proofs.Numbered.{numbered_more}
 use Rattle.cpu_feeders.proofs.OneMore.{all_more, as_many, as_many_at_end, both_shorter, empty, made_all, next_item, some_left}
@@ -29,13 +29,13 @@ loop-taker-preserved g c =
       ends = next_item end_in made now c.loop-taker.ends.items c.first_of.new.list.items _ _ c.first_of.result end pushed
           refl inv.ends;
       members = numbered_more made now _ pushed inv.members (c.len-in-loop-taker.ensures ∙ c.loop-taker.walkers.ok.0);
-      fresh = all_more (λ (w : Walker g.row.T.Denot). (w.released ≡ 0) × (w.full ≡ false)) made now _ pushed
+      fresh = all_more (λ (w : ReaderThread g.row.T.Denot). (w.released ≡ 0) × (w.full ≡ false)) made now _ pushed
           inv.fresh (refl, refl);
       seats = λ dealer own.
           let both = inv.seats dealer own in
           let parts = all_but (IsFreshOf dealer) c.last_of.new.list.items c.last_of.result
           (subst (λ (ss : List SeatValue). AllByRecursion (IsFreshOf dealer) ss) seat both.0) in
-          (parts.0, all_more (λ (w : Walker g.row.T.Denot). IsFreshOf dealer w.seat) made now _ pushed both.1 parts.1);
+          (parts.0, all_more (λ (w : ReaderThread g.row.T.Denot). IsFreshOf dealer w.seat) made now _ pushed both.1 parts.1);
     }
 
 pub first_of-requires : goal.first_of-requires

@@ -1,6 +1,6 @@
 use Rattle.std.proofs.Common.{◌≡◌, subst, rules, Option, None}
 use Rattle.frame_deals.specs.inside.Merges.{IsDealtFrom, IsNext}
-use Rattle.frame_deals.specs.declared.merge.Next.{Next}
+use Rattle.frame_deals.specs.declared.merge.NextFrame.{NextFrame}
 use Rattle.frame_deals.proofs.DealtFeeds.{is_deal}
 use Rattle.frame_deals.proofs.MergeSteps.{all_dealt}
 use Rattle.frame_deals.proofs.deals.merge_all.Goals as goal
@@ -12,7 +12,7 @@ dealt_from c =
     let merge = c.dealing.merge in
     let none : c.next.result ≡ None = search rules in
     all_dealt c.args.plan.now merge c.args.queues.items
-    (subst (λ (found : Option Next). IsNext merge.first merge.queues.items found) none c.next.ensures)
+    (subst (λ (found : Option NextFrame). IsNext merge.first merge.queues.items found) none c.next.ensures)
     c.dealing.invariant.dealt c.dealing.invariant.end
 
 pub returns-clause-from : goal.returns-clause-from

@@ -3,7 +3,7 @@ use Rattle.std.proofs.Common.{arith}
 use Rattle.std.specs.Prelude.{nat_le, nat_lt, ◌&&◌, ◌||◌}
 use Rattle.std.proofs.lemmas.Grind.{common_steps}
 use Rattle.ring_sizes.specs.Schedules.{is_stalled}
-use Rattle.ring_sizes.specs.declared.paces.Stall.{Stall}
+use Rattle.ring_sizes.specs.declared.paces.StallTime.{StallTime}
 use Rattle.ring_sizes.proofs.paces.next_change.Goals as goal
 
 least : (one other bound moment : ℕ) → moment < one → one ≤ bound → moment < other
@@ -15,11 +15,11 @@ below at one other next e h = (grind (arith, common_steps), grind (arith, common
 
 pub loop-stall-preserved : goal.loop-stall-preserved
 loop-stall-preserved c =
-    let none : Stall = record { from = 0; length = 0 } in
+    let none : StallTime = record { from = 0; length = 0 } in
     let index : ℕ = c.loop-stall.stall-index in
-    let stalls : List Stall = c.args.stalls.now in
-    let stall : Stall = get_or stalls index none in
-    let rest : List Stall = drop (index + 1) stalls in
+    let stalls : List StallTime = c.args.stalls.now in
+    let stall : StallTime = get_or stalls index none in
+    let rest : List StallTime = drop (index + 1) stalls in
     let head : drop index stalls ≡ stall ∷ rest = rw add-one (drop-cons stalls index none c.loop-stall-test.true) in
     let bounds = least c.loop-stall.next c.next_change.result (2 ^ 53) c.args.moment c.loop-stall.invariant.later
     c.loop-stall.invariant.early c.next_change.ensures.later in
@@ -32,9 +32,9 @@ loop-stall-preserved c =
           ≡ (nat_le stall.from c.args.moment && nat_lt c.args.moment (stall.from + stall.length)) =
           c.next_change.ensures.same at from both.1 in
           c.loop-stall.invariant.same at from both.0
-          (ap (λ (left : List Stall). is_stalled left at) head
+          (ap (λ (left : List StallTime). is_stalled left at) head
           ∙ ap (λ (held : Bool). held || is_stalled rest at) here
           ∙ ap (λ (others : Bool).
           (nat_le stall.from c.args.moment && nat_lt c.args.moment (stall.from + stall.length)) || others) rests
-          ∙ ap (λ (left : List Stall). is_stalled left c.args.moment) (sym head));
+          ∙ ap (λ (left : List StallTime). is_stalled left c.args.moment) (sym head));
     }

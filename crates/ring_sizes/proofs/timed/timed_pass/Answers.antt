@@ -9,7 +9,7 @@ use Rattle.ring_sizes.specs.Schedules.{steps_before, ticks_by}
 use Rattle.ring_sizes.specs.declared.events.Event.TheVariants.{Packet}
 use Rattle.ring_sizes.specs.declared.paces.Arrival.{Arrival}
 use Rattle.ring_sizes.specs.declared.sizes.Pass.{Pass}
-use Rattle.ring_sizes.specs.declared.timed.Place.{Place}
+use Rattle.ring_sizes.specs.declared.timed.TimedPlace.{TimedPlace}
 use Rattle.ring_sizes.proofs.Counts.{steps_rise, ticks_rise}
 use Rattle.ring_sizes.proofs.Still.{rested_at, rested_ticked, rested_within, same_place, same_rest}
 use Rattle.ring_sizes.proofs.Frames.{arrival_goes, end_goes, max_below, packet_ticked}
@@ -34,7 +34,7 @@ rest-pass-requires-clause-ticks c =
     greater c.loop-arrival.at arrival.at c.max-at.result c.max-at.ensures in
     let early = max_below c.loop-arrival.at arrival.at (2 ^ 53) c.loop-arrival.invariant.early soon in
     let rise = ticks_rise c.args.pace.now c.max-at.result (2 ^ 53) c.requires.sound.tov (omega (arith, max_is, early)) in
-    omega (arith, rise, ap (λ (place : Place). place.ticks) c.new-next.ensures)
+    omega (arith, rise, ap (λ (place : TimedPlace). place.ticks) c.new-next.ensures)
 
 pub rest-pass-requires-clause-steps : goal.rest-pass-requires-clause-steps
 rest-pass-requires-clause-steps c =
@@ -47,13 +47,13 @@ rest-pass-requires-clause-steps c =
     greater c.loop-arrival.at arrival.at c.max-at.result c.max-at.ensures in
     let early = max_below c.loop-arrival.at arrival.at (2 ^ 53) c.loop-arrival.invariant.early soon in
     let rise = steps_rise c.args.pace.now c.max-at.result (2 ^ 53) c.requires.sound (omega (arith, max_is, early)) in
-    omega (arith, rise, ap (λ (place : Place). place.steps) c.new-next.ensures)
+    omega (arith, rise, ap (λ (place : TimedPlace). place.steps) c.new-next.ensures)
 
-still_at : (place other : Place) (until before : ℕ) → place ≡ other → until ≡ before
+still_at : (place other : TimedPlace) (until before : ℕ) → place ≡ other → until ≡ before
     → ((at : ℕ) → at < before → (at < other.tick_at) × (at ≤ other.step_at))
     → (at : ℕ) → at < until → (at < place.tick_at) × (at ≤ place.step_at)
 still_at place other until before e f h =
-    subst (λ (p : Place). (at : ℕ) → at < until → (at < p.tick_at) × (at ≤ p.step_at)) (sym e)
+    subst (λ (p : TimedPlace). (at : ℕ) → at < until → (at < p.tick_at) × (at ≤ p.step_at)) (sym e)
     (subst (λ (n : ℕ). (at : ℕ) → at < n → (at < other.tick_at) × (at ≤ other.step_at)) (sym f) h)
 
 -- the pass before the packet
@@ -148,6 +148,6 @@ returns c =
     c.steps_before.result c.args.arrivals.now c.loop-arrival.arrival-index c.loop-arrival.pass c.rest.result _
     c.requires.sound c.loop-arrival.invariant.ticked c.loop-arrival-test.false c.ticks_by.ensures c.steps_before.ensures
     (c.rest.ensures
-    ∙ ap (λ (p : Place). rested c.args.stalls.now c.args.pace.now p.ticks c.ticks_by.result p.steps c.steps_before.result
+    ∙ ap (λ (p : TimedPlace). rested c.args.stalls.now c.args.pace.now p.ticks c.ticks_by.result p.steps c.steps_before.result
     c.loop-arrival.pass) c.loop-arrival.invariant.place)
     c.loop-arrival.invariant.goes

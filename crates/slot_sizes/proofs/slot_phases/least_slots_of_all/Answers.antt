@@ -1,6 +1,6 @@
 use Rattle.std.proofs.Common.{ℕ, ◌≡◌, ◌↔◌, ◌+◌, ◌≤◌, subst, sym, ap, ◌∙◌, arith}
 use Rattle.ring_sizes.specs.Phases.{IsFirstMost, begun}
-use Rattle.ring_sizes.specs.declared.paces.Pace.{Pace}
+use Rattle.ring_sizes.specs.declared.paces.Timing.{Timing}
 use Rattle.ring_sizes.specs.declared.tries.Reached.{Reached}
 use Rattle.ring_sizes.proofs.Worsts.{first_try, more_from, most}
 use Rattle.slot_sizes.specs.SlotHappenings.{IsNeverFull}
@@ -16,7 +16,7 @@ loop-from-init c = record {
       first_try _ _ most (λ phase from. least_slots_of c.args.stalls.now (begun c.args.pace.now phase from)
       c.args.arrivals.now end) c.args.tries.now c.least_slots_at.result
       (c.least_slots_at.ensures.least end
-      ∙ ap (λ (pace : Pace). least_slots_of c.args.stalls.now pace c.args.arrivals.now end) c.begun.ensures);
+      ∙ ap (λ (pace : Timing). least_slots_of c.args.stalls.now pace c.args.arrivals.now end) c.begun.ensures);
 }
 
 pub loop-from-preserved : goal.loop-from-preserved
@@ -32,7 +32,7 @@ loop-from-preserved c = record {
       c.args.tries.now c.loop-from.from c.least_slots_at-number.result c.loop-from.worst (c.loop-from.invariant.far end)
       c.loop-from.invariant.some
       (c.least_slots_at-number.ensures.least end
-      ∙ ap (λ (pace : Pace). least_slots_of c.args.stalls.now pace c.args.arrivals.now end) c.begun-in-loop-from.ensures));
+      ∙ ap (λ (pace : Timing). least_slots_of c.args.stalls.now pace c.args.arrivals.now end) c.begun-in-loop-from.ensures));
 }
 
 pub returns-clause-some : goal.returns-clause-some

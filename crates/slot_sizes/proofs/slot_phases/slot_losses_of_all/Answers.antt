@@ -1,7 +1,7 @@
 use Rattle.std.proofs.Common.{ℕ, ◌≡◌, ◌+◌, refl, subst, sym, ap, ◌∙◌, arith}
 use Rattle.ring_model.specs.declared.notes.Stats.{Stats}
 use Rattle.ring_sizes.specs.Phases.{IsBeginning, IsFirstFewest, IsFirstMost, begun}
-use Rattle.ring_sizes.specs.declared.paces.Pace.{Pace}
+use Rattle.ring_sizes.specs.declared.paces.Timing.{Timing}
 use Rattle.ring_sizes.proofs.Worsts.{fewer_from, fewest, first_try, more_from, most}
 use Rattle.slot_sizes.specs.SlotSchedules.{slot_drops_of}
 use Rattle.slot_sizes.proofs.SlotRuns.{totals_at}
@@ -15,12 +15,12 @@ loop-from-init c = record {
       first_try _ _ fewest (λ phase from. slot_drops_of c.args.slots c.args.stalls.now (begun c.args.pace.now phase from)
       c.args.arrivals.now end) c.args.tries.now c.slot_losses_at-stats.result.drops
       (ap (λ (stats : Stats). stats.drops) (c.slot_losses_at-stats.ensures.stats end)
-      ∙ ap (λ (pace : Pace). slot_drops_of c.args.slots c.args.stalls.now pace c.args.arrivals.now end) c.begun.ensures);
+      ∙ ap (λ (pace : Timing). slot_drops_of c.args.slots c.args.stalls.now pace c.args.arrivals.now end) c.begun.ensures);
   most = λ end.
       first_try _ _ most (λ phase from. slot_drops_of c.args.slots c.args.stalls.now (begun c.args.pace.now phase from)
       c.args.arrivals.now end) c.args.tries.now c.slot_losses_at-stats.result.drops
       (ap (λ (stats : Stats). stats.drops) (c.slot_losses_at-stats.ensures.stats end)
-      ∙ ap (λ (pace : Pace). slot_drops_of c.args.slots c.args.stalls.now pace c.args.arrivals.now end) c.begun.ensures);
+      ∙ ap (λ (pace : Timing). slot_drops_of c.args.slots c.args.stalls.now pace c.args.arrivals.now end) c.begun.ensures);
 }
 
 pub loop-from-preserved : goal.loop-from-preserved
@@ -37,7 +37,7 @@ loop-from-preserved c = record {
       c.loop-from.range.fewest
       (c.loop-from.invariant.fewest end) c.loop-from.invariant.some
       (ap (λ (stats : Stats). stats.drops) (c.slot_losses_at-stats-in-loop-from.ensures.stats end)
-      ∙ ap (λ (pace : Pace). slot_drops_of c.args.slots c.args.stalls.now pace c.args.arrivals.now end)
+      ∙ ap (λ (pace : Timing). slot_drops_of c.args.slots c.args.stalls.now pace c.args.arrivals.now end)
       c.begun-in-loop-from.ensures));
   most = λ end.
       subst (IsFirstMost
@@ -49,7 +49,7 @@ loop-from-preserved c = record {
       c.loop-from.range.most
       (c.loop-from.invariant.most end) c.loop-from.invariant.some
       (ap (λ (stats : Stats). stats.drops) (c.slot_losses_at-stats-in-loop-from.ensures.stats end)
-      ∙ ap (λ (pace : Pace). slot_drops_of c.args.slots c.args.stalls.now pace c.args.arrivals.now end)
+      ∙ ap (λ (pace : Timing). slot_drops_of c.args.slots c.args.stalls.now pace c.args.arrivals.now end)
       c.begun-in-loop-from.ensures));
 }
 

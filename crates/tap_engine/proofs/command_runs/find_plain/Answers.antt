@@ -5,7 +5,7 @@ use Rattle.tap_engine.specs.Commands.{Named, named_by, plain_command}
 use Rattle.tap_engine.specs.Conclusions.{IsSearched}
 use Rattle.tap_engine.specs.Findings.{IsReady}
 use Rattle.tap_engine.specs.Names.{AreMeantToRead}
-use Rattle.tap_engine.specs.declared.findings.Finding.{Finding}
+use Rattle.tap_engine.specs.declared.findings.CommandResult.{CommandResult}
 use Rattle.tap_engine.proofs.Found.{ready_of, searched}
 use Rattle.tap_engine.proofs.command_runs.find_plain.Goals as goal
 
@@ -20,12 +20,12 @@ returns-clause-found g c =
     c.in-Some.asked.schedule.now in
     let old = g.S.Store.seen c.args.store.now in
     let new = g.S.Store.seen c.carry_out.new.store in
-    subst (λ (answer : Result Finding Memory). IsSearched (plain_command c.args.words.now) old new
-    answer) (sym c.finding_of.ensures)
+    subst (λ (answer : Result CommandResult Memory). IsSearched (plain_command c.args.words.now) old new
+    answer) (sym c.command_result_of.ensures)
     (searched _ old new named c.carry_out.result (sym c.in-Some.ensures.command)
     c.carry_out.ensures.store c.carry_out.ensures.found c.carry_out.ensures.stop)
 
 pub returns-clause-ready : goal.returns-clause-ready
 returns-clause-ready g c =
-    subst (λ (answer : Result Finding Memory). IfOk answer IsReady) (sym c.finding_of.ensures)
+    subst (λ (answer : Result CommandResult Memory). IfOk answer IsReady) (sym c.command_result_of.ensures)
     (ready_of c.carry_out.result c.carry_out.ensures.ready)

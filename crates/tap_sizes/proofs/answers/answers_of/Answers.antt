@@ -1,6 +1,6 @@
 use Rattle.std.proofs.Common.{◌≡◌, ℕ, ◌<◌, List, true, false, refl, sym, ap, ◌∙◌, arith, get_or, length, rules, subst}
 use Rattle.ring_sizes.specs.Phases.{AreTried}
-use Rattle.ring_sizes.specs.declared.paces.Stall.{Stall}
+use Rattle.ring_sizes.specs.declared.paces.StallTime.{StallTime}
 use Rattle.ring_sizes.specs.declared.tries.Reached.{Reached}
 use Rattle.tap_sizes.specs.inside.Passes.{AreDropRanges, AreFirstMost, Clocks, greatest_ring}
 use Rattle.tap_sizes.proofs.Answering.{answered_by, not_both_ways}
@@ -67,7 +67,7 @@ returns c =
     let group = found.2 ∙ ap (λ (rs : List Reached). greatest_ring found.0 rs) c.as_slice-2.ensures in
     let alone = sym c.rolls_over.ensures ∙ c.if-rolls_over.false in
     let same = c.as_slice-3.ensures.value ∙ sym c.as_slice.ensures.value in
-    let ranges = subst (λ (ss : List Stall). AreDropRanges (room_of setup.shape) setup.shape.block_nr
+    let ranges = subst (λ (ss : List StallTime). AreDropRanges (room_of setup.shape) setup.shape.block_nr
     (record { pace = pace; stalls = ss; end = end }) tries all c.in_ok-drops.drops) same
     c.in_ok-drops.ensures in
     answered_by setup reader all end c.args.files _ pace c.time_out-tov.result tries stalls rings

@@ -18,7 +18,8 @@ returns-clause-written c =
     let fits : at + need_of_packet packet ≤ length c.args.bytes.now = rw kept c.requires.fits in
     let zeros : c.put_u64.new.bytes ≡ put (at + (need_of_packet packet - 8)) (replicate 8 0) c.args.bytes.now =
     rw (kept, c.put_u64.ensures, need) refl in
-    let address = c.put_address.ensures.written packet (rw c.as_slice-frame.ensures refl) refl (rw c.as_slice-frame.ensures refl) in
+    let address = c.put_address.ensures.written packet (rw c.as_slice-frame.ensures refl) refl
+    (rw c.as_slice-frame.ensures refl) in
     let copied : c.put_bytes.new.bytes ≡ put (at + 82) packet.bytes c.put_zeros-2.new.bytes =
     rw (c.put_bytes.ensures.written, c.split_at.ensures.front, c.as_slice-frame.ensures) refl in
     packet_put at c.need-need.result packet c.args.bytes.now _ _ _ _ _ _ fits zeros c.put_header.ensures.written
@@ -37,5 +38,6 @@ returns-clause-typed c =
       tci = numbers.tci;
       protocol = subst (λ (xs : List ℕ). protocol_of xs < 2 ^ 16) same c.put_address.ensures.protocol;
       six = refl;
-      addr = all_bytes (address_of 6 frame) (subst (λ (xs : List ℕ). IsBytes (address_of 6 xs)) same c.put_address.ensures.typed);
+      addr = all_bytes (address_of 6 frame) (subst (λ (xs : List ℕ). IsBytes (address_of 6 xs)) same
+          c.put_address.ensures.typed);
     }

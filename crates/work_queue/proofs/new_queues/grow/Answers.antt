@@ -1,7 +1,7 @@
 use Rattle.std.proofs.Common.{◌≡◌, ◌+◌, [], List, length, sym, ap, ◌∙◌, arith}
 use Rattle.work_queue.specs.Logs.{grown, log}
 use Rattle.work_queue.specs.declared.knowledge.Log.{Log}
-use Rattle.work_queue.specs.declared.knowledge.Part.{Part}
+use Rattle.work_queue.specs.declared.knowledge.PassPart.{PassPart}
 use Rattle.work_queue.proofs.Fresh.{fresh_long, parts_more}
 use Rattle.work_queue.proofs.Splits.{grows}
 use Rattle.work_queue.proofs.new_queues.grow.Goals as goal
@@ -18,5 +18,5 @@ pub loop-preserved : goal.loop-preserved
 loop-preserved c = record {
   own = c.another-nobodys.ensures.queue.0;
   grown = c.another-nobodys.ensures.rule.0 ∙ ap grown c.loop.invariant.grown
-      ∙ ap (λ (parts : List Part). log (c.loop.counter + 1) parts []) (parts_more c.loop.counter);
+      ∙ ap (λ (parts : List PassPart). log (c.loop.counter + 1) parts []) (parts_more c.loop.counter);
 }

@@ -114,10 +114,10 @@ returns-in_ok-receive-in-Some-2-clause-lawful g c =
     c.in_ok-receive-in-Some-2.ensures.lawful
 
 pub returns-in-None-2-clause-lawful : goal.returns-in-None-2-clause-lawful
-returns-in-None-2-clause-lawful g c = λ lens all agrees whole lawful.
+returns-in-None-2-clause-lawful g c = λ judge all agrees whole lawful.
     let path = ap (λ (cpu : Feeding). cpu.path) c.self.view_is in
     let held = path_held c.pop.new.self c.in-Some.frame _ _ path c.in_ok-arrival-in-Some.ensures.held in
-    subst (λ (cpu : Feeding). IsLawful (rules_by c.args.self.now.path.shape lens) all
+    subst (λ (cpu : Feeding). IsLawful (rules_by c.args.self.now.path.shape judge) all
     (record cpu { path = c.arrive.new.self })) (sym c.self.view_is)
     (frame_lawful c.args.self.now c.fill.new.self c.in_ok-fill.ensures.read c.in-Some.frame c.pop.new.self
     (record c.pop.new.self { path = c.arrive.new.self }) _
@@ -126,14 +126,14 @@ returns-in-None-2-clause-lawful g c = λ lens all agrees whole lawful.
     (subst (λ (p : Path). Arrives c.in-Some.frame None p c.arrive.new.self) path
     (subst (λ (o : Option Frame). Arrives c.in-Some.frame o c.self.inside.path c.arrive.new.self) c.in-None-2.is
     c.in_ok-arrival-in-Some.ensures.lawful))
-    (rules_by c.args.self.now.path.shape lens) all
+    (rules_by c.args.self.now.path.shape judge) all
     (subst (λ (cpu : Feeding). IsAllOfCpu all (record cpu { path = c.arrive.new.self })) c.self.view_is whole) lawful)
 
 pub returns-in-None-clause-lawful : goal.returns-in-None-clause-lawful
-returns-in-None-clause-lawful g c = λ lens all agrees whole lawful.
+returns-in-None-clause-lawful g c = λ judge all agrees whole lawful.
     none_lawful c.args.self.now c.fill.new.self c.in_ok-fill.ensures.read c.pop.new.self _
     c.pop.ensures c.in-None.is
-    (rules_by c.args.self.now.path.shape lens) all whole lawful
+    (rules_by c.args.self.now.path.shape judge) all whole lawful
 
 pub returns-in_err-arrival-in-Some-clause-err : goal.returns-in_err-arrival-in-Some-clause-err
 returns-in_err-arrival-in-Some-clause-err g c =

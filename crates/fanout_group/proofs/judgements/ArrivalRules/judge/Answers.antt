@@ -1,9 +1,10 @@
 use Rattle.std.proofs.Common.{rules}
-use Rattle.fanout_group.specs.Lenses.{lens_of}
-use Rattle.fanout_group.proofs.LikeLenses.{judged_alike}
+use Rattle.fanout_group.specs.RulesOfJudging.{judge_rules_of}
+use Rattle.fanout_group.proofs.LikeJudgeRules.{judged_alike}
 use Rattle.fanout_group.proofs.judgements.ArrivalRules.judge.Goals as goal
 
 pub returns-clause-judged : goal.returns-clause-judged
 returns-clause-judged c = λ group agree.
-    judged_alike c.args.arrival group (lens_of c.args.self.now) agree c.args.self.now.room c.args.ticket _ _ (search rules)
+    judged_alike c.args.arrival group (judge_rules_of c.args.self.now) agree c.args.self.now.room c.args.ticket _ _
+    (search rules)
     (search rules)

@@ -35,7 +35,8 @@ returns-clause-sound c =
     let held : All IsUntagged now.held =
     subst (λ (path : Path). All IsUntagged path.held) c.self.view_is c.self.invariant.held in
     let sound : IfSome (arrival_at defrag now.held frame) IsArrival =
-    IfSome_then (arrival_at defrag now.held frame) (leaves defrag now.held frame held c.requires.bare c.requires.captured).arrival
+    IfSome_then (arrival_at defrag now.held frame) (leaves defrag now.held frame held c.requires.bare
+    c.requires.captured).arrival
     (λ arrival h. h.arrival) in
     after_ok c.match-self.result _ _ _ comes (whenever c.match-self.result) (λ arrival is _.
     subst (λ (a : Option Frame). IfSome a IsArrival) (sym is) sound)

@@ -3,7 +3,7 @@ use Rattle.std.specs.Prelude.{OnErr, Option, Result, Ok, Err}
 use Rattle.ring_model.specs.declared.notes.Offer.{Offer}
 use Rattle.fanout_group.specs.Deliveries.{AreTriesOf}
 use Rattle.fanout_group.specs.Judgements.{offer_by}
-use Rattle.fanout_group.specs.Lenses.{lens_of}
+use Rattle.fanout_group.specs.RulesOfJudging.{judge_rules_of}
 use Rattle.fanout_group.specs.Paths.{Path}
 use Rattle.fanout_group.specs.Routes.{IsBegun, IsRoute, present_after}
 use Rattle.fanout_group.proofs.Receptions.{gives_up, none_begun, offers_nothing, present_after-none, receives, stays_lawful}
@@ -22,7 +22,7 @@ returns-clause-received g c =
     let rules_now = c.args.rules.now in
     let judged = c.judgement-judgement in
     let mode_is = c.mode.ensures ∙ ap (λ (path : Path). path.shape.mode) c.self.view_is in
-    let made_offer = offer_by (lens_of rules_now) rules_now.room c.args.arrival in
+    let made_offer = offer_by (judge_rules_of rules_now) rules_now.room c.args.arrival in
     let its = c.if-judgement-eq0 in
     let tried : AreTriesOf IsRoute g.G.Desk.made now.shape c.draw-ticket.result rules_now.queue now.present made_offer its.tries
     c.draw-ticket.new.group its.group =
@@ -84,9 +84,9 @@ returns-clause-received g c =
     }) c.self.view_is))
 
 pub returns-clause-lawful : goal.returns-clause-lawful
-returns-clause-lawful g c = λ lens frames agrees.
+returns-clause-lawful g c = λ judge frames agrees.
     stays_lawful g.G.Desk.made g.G.Group.drew c.args.rules.now c.args.arrival c.args.self.now _ _ _
-    (returns-clause-received g c) lens agrees frames
+    (returns-clause-received g c) judge agrees frames
 
 pub returns-clause-room : goal.returns-clause-room
 returns-clause-room g c = λ n room.
@@ -105,12 +105,14 @@ returns-in_err-tries-clause-given_up g c =
     let begun = c.in_err-tries.ensures.begun in
     after_err c.from_residual-in_err-tries.result _
     (gives_up rules_now c.args.arrival judged.result.hash judged.result.verdict judged.ensures.hash judged.ensures.verdict
-    g.G.Desk.made g.G.Group.drew c.draw-ticket.result c.draw-ticket.new.group c.offer_to.new.group now c.args.group.now _ mode_is
+    g.G.Desk.made g.G.Group.drew c.draw-ticket.result c.draw-ticket.new.group c.offer_to.new.group now c.args.group.now _
+    mode_is
     c.draw-ticket.ensures.ticket c.draw-ticket.ensures.drawn begun.0
     (subst (λ (path : Path). AreTriesOf IsBegun g.G.Desk.made path.shape c.draw-ticket.result rules_now.queue path.present
-    (offer_by (lens_of rules_now) rules_now.room c.args.arrival) begun.0 c.draw-ticket.new.group c.offer_to.new.group)
+    (offer_by (judge_rules_of rules_now) rules_now.room c.args.arrival) begun.0 c.draw-ticket.new.group c.offer_to.new.group)
     c.self.view_is
-    (tries_from_home rules_now c.args.arrival judged.result.hash judged.result.verdict judged.ensures.hash judged.ensures.verdict
+    (tries_from_home rules_now c.args.arrival judged.result.hash judged.result.verdict judged.ensures.hash
+    judged.ensures.verdict
     g.G.Desk.made g.G.Group.drew c.draw-ticket.result c.draw-ticket.new.group c.offer_to.new.group
     IsBegun c.self.inside.plan rules_now.queue c.self.inside.present c.home-home.result c.offer-offer.result
     begun.0 c.if-judgement-eq0.false c.offer-offer.ensures.offer c.home-home.ensures.home begun.1 begun.2)))
@@ -126,4 +128,4 @@ returns-in_err-reserve-clause-given_up g c =
     g.G.Desk.made g.G.Group.drew c.draw-ticket.result c.draw-ticket.new.group c.draw-ticket.new.group now c.args.group.now _
     mode_is c.draw-ticket.ensures.ticket c.draw-ticket.ensures.drawn []
     (none_begun g.G.Desk.made g.met.G.Desk.none_made now.shape c.draw-ticket.result rules_now.queue now.present
-    (offer_by (lens_of rules_now) rules_now.room c.args.arrival) c.draw-ticket.new.group))
+    (offer_by (judge_rules_of rules_now) rules_now.room c.args.arrival) c.draw-ticket.new.group))

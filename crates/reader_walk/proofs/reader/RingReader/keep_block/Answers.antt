@@ -7,7 +7,8 @@ invariant_of-self g c =
     let own = g.B.Layout.shape unit in
     let bytes = g.B.Content.bytes unit in
     let reader = c.self.inside in (
-      sound_after g.B.Layout.text_of g.B.Layout.taken_in own reader.shape reader.dumps _ bytes reader.copies c.take_over.new.self
+      sound_after g.B.Layout.text_of g.B.Layout.taken_in own reader.shape reader.dumps _ bytes reader.copies
+          c.take_over.new.self
           _ c.take_over.result
           c.requires.readable.shape_is c.self.view_is c.self.invariant.0 c.take_over.ensures.adds,
       c.self.invariant.1,
