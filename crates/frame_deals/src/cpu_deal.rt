@@ -116,8 +116,10 @@ impl CpuDeal {
         ensures cpu { OnOk result (self.new.cpu ≡ self.old.cpu) }
         ensures shape { OnOk result (self.new.shape ≡ self.old.shape) }
         ensures arrivals { OnOk result (self.old.arrivals ≤ self.new.arrivals) }
-        ensures taken { OnOk result ((judge : JudgeRules) → AgreesAt self.old.cpu judge (judge_rules_of rules.now)
-            → self.new ≡ after_frame (rules_by self.old.shape judge) rules.now.room frame self.old) }
+        ensures taken { OnOk result ((judge : JudgeRules)
+            → AgreesAt self.old.cpu judge (judge_rules_of rules.now)
+            → self.new
+            ≡ after_frame (rules_by self.old.shape judge) rules.now.room frame self.old) }
     {
         if self.frames == u32::MAX {
             return Err(Memory);
@@ -146,7 +148,8 @@ impl CpuDeal {
         ensures cpu { OnOk result (self.new.cpu ≡ self.old.cpu) }
         ensures shape { OnOk result (self.new.shape ≡ self.old.shape) }
         ensures arrivals { OnOk result (self.old.arrivals ≤ self.new.arrivals) }
-        ensures taken { OnOk result ((judge : JudgeRules) → AgreesAt self.old.cpu judge (judge_rules_of rules.now)
+        ensures taken { OnOk result ((judge : JudgeRules)
+            → AgreesAt self.old.cpu judge (judge_rules_of rules.now)
             → self.new
             ≡ after_frames (rules_by self.old.shape judge) rules.now.room frames self.old) }
     {

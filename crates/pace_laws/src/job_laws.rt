@@ -30,15 +30,15 @@ pub fn a_job_has_a_sizing()
 /// The rings of its replays have the notes of the replay report (`report_of`) of the same job with
 /// so many blocks, or slots, over sources that gave these bytes.
 pub fn the_notes_of_a_report_are_those_of_the_sizing()
-    ensures blocks { (job other : Job) (reader : PacedReader) (lines : List Line) (all : List (List ℕ))
-        (ends : List CpuEnd) (blocks frames : ℕ)
+    ensures blocks { (job other : Job) (reader : PacedReader) (lines : List Line)
+        (all : List (List ℕ)) (ends : List CpuEnd) (blocks frames : ℕ)
         → IsReshaped blocks frames job other
         → let sizing = sizing_of job reader all in
         let steps = blocks_with sizing blocks in
         map (λ member. member.notes) (block_report other lines all ends).members
         ≡ notes_of (replayed sizing.rules steps sizing.arriving lines).members }
-    ensures slots { (job other : Job) (reader : PacedReader) (lines : List Line) (all : List (List ℕ))
-        (ends : List CpuEnd) (blocks slots : ℕ)
+    ensures slots { (job other : Job) (reader : PacedReader) (lines : List Line)
+        (all : List (List ℕ)) (ends : List CpuEnd) (blocks slots : ℕ)
         → IsReshaped blocks slots job other
         → let sizing = slot_sizing_of job reader all in
         let steps = slots_with sizing slots in

@@ -15,9 +15,9 @@ ghost use Rattle.ring_sizes.specs.declared.paces.Timing.{Timing};
 ghost use Rattle.ring_sizes.specs.declared.tries.Reached.{Reached};
 ghost use Rattle.ring_sizes.specs.declared.tries.Tries.{Tries};
 
-/// What is said of replays is said of some: a reader that doesn't poll has a schedule for any number
-/// of blocks (clause `group`), and without rollover each member has a ring in the replay by it
-/// (clause `member`).
+/// What is said of replays is said of some: a reader that doesn't poll has a schedule for any
+/// number of blocks (clause `group`), and without rollover each member has a ring in the replay by
+/// it (clause `member`).
 pub fn each_member_has_a_replay()
     ensures group { (sizing : Sizing) (pace : Timing) (blocks phase from : ℕ)
         → IsSizing sizing pace
