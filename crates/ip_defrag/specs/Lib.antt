@@ -4,4 +4,4 @@ pub mod Fold
 pub mod Fragments
 pub mod Grouped
 pub mod Held
-pub mod UnitOwners
+pub mod Marks
