@@ -27,30 +27,30 @@ impl<E, B> Split<Knows<E, B>> for SeatStep {
 }
 
 /// A look at the ticket that is served.
-pub struct Looks;
+pub struct LookStep;
 
-impl<V: Kept> Play<Option<V>, Knows<V::Entry, V::Base>> for Looks {
+impl<V: Kept> Play<Option<V>, Knows<V::Entry, V::Base>> for LookStep {
     ghost then = { Looked };
 }
 
 /// The next ticket is drawn and the value is taken, where the number of tickets is the expected one.
-pub struct Draws;
+pub struct DrawStep;
 
-impl<V: Kept> Play<Option<V>, Knows<V::Entry, V::Base>> for Draws {
+impl<V: Kept> Play<Option<V>, Knows<V::Entry, V::Base>> for DrawStep {
     ghost then = { Drew V.stored V.base V.may_add };
 }
 
 /// The next ticket is served, and the value is back.
-pub struct Leaves;
+pub struct LeaveStep;
 
-impl<V: Kept> Play<Option<V>, Knows<V::Entry, V::Base>> for Leaves {
+impl<V: Kept> Play<Option<V>, Knows<V::Entry, V::Base>> for LeaveStep {
     ghost then = { Left V.stored };
 }
 
 /// A seat takes in another.
-pub struct Gathers;
+pub struct JoinStep;
 
-impl<E, B> Join<Knows<E, B>> for Gathers {
+impl<E, B> Join<Knows<E, B>> for JoinStep {
     ghost both = { joined };
 
     ghost spent = { spent };

@@ -2,8 +2,8 @@ use Rattle.std.proofs.Common.{sym, ap, ◌∙◌, arith}
 use Rattle.tx_ring.specs.Sends.{frame_of}
 use Rattle.tx_ring.proofs.Moves.{count_of, request_there}
 use Rattle.tx_ring.proofs.ring.TxRing.good_frame.Goals as goal
-use Rattle.tx_ring.proofs.ring.TxRing.good_frame.Goals.{else-next_offset-eq0-via-then-next_offset-eq0+then-asked-ge-LEAST+else-asked-room}
-use Rattle.tx_ring.proofs.ring.TxRing.good_frame.Goals.{else-next_offset-eq0-via-then-next_offset-eq0+else-asked-ge-LEAST}
+use Rattle.tx_ring.proofs.ring.TxRing.good_frame.Goals.{else-next_offset-eq0-via-then-next_offset-eq0+then-asked-ge-LINK_HEADER+else-asked-room}
+use Rattle.tx_ring.proofs.ring.TxRing.good_frame.Goals.{else-next_offset-eq0-via-then-next_offset-eq0+else-asked-ge-LINK_HEADER}
 use Rattle.tx_ring.proofs.ring.TxRing.good_frame.Goals.{else-next_offset-eq0-via-else-next_offset-eq0}
 
 pub overflow_sub-self-inside : goal.overflow_sub-self-inside
@@ -28,9 +28,9 @@ returns-else-next_offset-eq0-clause-good c =
     let request = request_there c.self.invariant c.self.view_is c.requires c.requested.ensures c.from.ensures
     c.slot_of-at.ensures.value in
     rw (sym request) (elim c.else-next_offset-eq0.branch [
-      | else-next_offset-eq0-via-then-next_offset-eq0+then-asked-ge-LEAST+else-asked-room w ↦
+      | else-next_offset-eq0-via-then-next_offset-eq0+then-asked-ge-LINK_HEADER+else-asked-room w ↦
           grind (arith, c.next_offset.ensures, c.asked-asked.ensures, w.room.ensures.value, w.if-asked-room.false)
-      | else-next_offset-eq0-via-then-next_offset-eq0+else-asked-ge-LEAST w ↦
-          grind (arith, c.asked-asked.ensures, w.if-asked-ge-LEAST.false)
+      | else-next_offset-eq0-via-then-next_offset-eq0+else-asked-ge-LINK_HEADER w ↦
+          grind (arith, c.asked-asked.ensures, w.if-asked-ge-LINK_HEADER.false)
       | else-next_offset-eq0-via-else-next_offset-eq0 w ↦ grind (arith, c.next_offset.ensures, w.if-next_offset-eq0.false)
     ])
