@@ -1,13 +1,13 @@
 #!/usr/bin/env python3
 """Makes docs/definitions.md: which definitions the contract of `run` reaches, by crate and
-module of specs/.
+module of specs/, and which that of `run_size` reaches beside them.
 
     definitions.py             the status is 1 where the page isn't what the sources give
     definitions.py --write     writes the page anew
 
 A definition reaches another where its text has the other's name and its module imports that
-name. The names of the contract of `run` are where it begins. A type of the code counts as
-reached, and what its `impl Model` names with it.
+name. The names of a call's contract are where it begins. A type of the code counts as reached,
+and what its `impl Model` names with it.
 """
 from __future__ import annotations
 
@@ -15,12 +15,15 @@ import argparse
 import re
 import sys
 import textwrap
+from collections.abc import Iterable
 from dataclasses import dataclass, field
 from pathlib import Path
 
 TOP = Path(__file__).resolve().parent.parent.parent
 PAGE = TOP / "docs" / "definitions.md"
-CALLS, CALL = TOP / "crates/tap_engine/src/calls.rt", "pub fn run<"
+# The calls of the two programs: the source of each, and how its contract begins there.
+RUN = ("tap_engine", "pub fn run<")
+RUN_SIZE = ("tap_sizes", "pub fn run_size<")
 IMPORT = re.compile(r"^\s*(?:ghost )?use Rattle\.(\w+)\.specs\.([\w.]+)\.\{([^}]*)\}", re.M)
 ALIAS = re.compile(r"^\s*(?:ghost )?use Rattle\.(\w+)\.specs\.([\w.]+) as (\w+)$", re.M)
 HEAD = re.compile(
@@ -110,19 +113,19 @@ def model_of(crate: str, module: str) -> Module | None:
     )
 
 
-def contract() -> Module:
-    """The clauses of `run`, with the imports of its file."""
-    text = without_comments(CALLS.read_text(encoding="utf-8"), "//")
-    begin = text.index(CALL)
-    return Module(
-        0, imports_of(text), aliases_of(text), {"run": text[begin : text.index("\n{", begin)]}
-    )
+def contract(crate: str, begins: str) -> Module:
+    """The clauses of a call, with the imports of its file."""
+    path = TOP / "crates" / crate / "src" / "calls.rt"
+    text = without_comments(path.read_text(encoding="utf-8"), "//")
+    begin = text.index(begins)
+    clauses = text[begin : text.index("\n{", begin)]
+    return Module(0, imports_of(text), aliases_of(text), {"contract": clauses})
 
 
-def reached(known: dict[Place, Module]) -> dict[Place, set[str]]:
-    """The definitions that the contract of `run` reaches, by their modules."""
+def reached(known: dict[Place, Module], call: tuple[str, str]) -> dict[Place, set[str]]:
+    """The definitions that the contract of a call reaches, by their modules."""
     found: dict[Place, set[str]] = {}
-    waiting: list[tuple[Module, str]] = [(contract(), "run")]
+    waiting: list[tuple[Module, str]] = [(contract(*call), "contract")]
     types: set[Place] = set()
     while waiting:
         module, name = waiting.pop()
@@ -135,7 +138,7 @@ def reached(known: dict[Place, Module]) -> dict[Place, set[str]]:
             elif word in module.texts and word != name:
                 place = next((at for at, it in known.items() if it is module), None)
                 waiting += follow(place, word, known, found, types) if place else []
-    return found
+    return {place: names for place, names in found.items() if names}
 
 
 def follow(
@@ -157,9 +160,34 @@ def follow(
 
 def page() -> str:
     known = modules()
-    found = {place: names for place, names in reached(known).items() if names}
-    length = sum(known[place].length for place in found)
-    lines = [
+    of_run, of_size = reached(known, RUN), reached(known, RUN_SIZE)
+    more = sum(len(names - of_run.get(place, set())) for place, names in of_size.items())
+    alone = {place for place in of_size if place not in of_run}
+    return "\n".join([
+        *beginning(),
+        *wrapped(
+            f"The contract of `run` reaches {sum(map(len, of_run.values()))} definitions in "
+            f"{len(of_run)} of {len(known)} modules, which have {lines_of(known, of_run):,} "
+            "lines without comments and imports. Begin at the end, with `Headline` of tap_engine, "
+            "then `Reports` of run_reports, `Joined` of fanout_group and `Ring` of ring_model; "
+            "the rest is what these are made of. All others are for a crate's own contracts, "
+            "theorems and proofs."
+        ),
+        "",
+        *listed(known, set(of_run)),
+        "", "## Of ringsize alone", "",
+        *wrapped(
+            f"The contract of `run_size` reaches {more} definitions that `run` doesn't. "
+            f"{len(alone)} modules have such definitions alone, in {lines_of(known, alone):,} "
+            "lines. Begin with `Answers` of tap_sizes and `LeastRings` of pace_laws."
+        ),
+        "",
+        *listed(known, alone),
+    ]) + "\n"
+
+
+def beginning() -> list[str]:
+    return [
         "# The definitions", "",
         *wrapped(
             "Made by `python3 checks/definitions.py --write`; `checks/outside/test_documents.py` "
@@ -174,23 +202,23 @@ def page() -> str:
             "milliseconds; blocks count from 1, CPUs, members, frames and instructions from 0."
         ),
         "",
-        *wrapped(
-            f"The contract of `run` reaches {sum(map(len, found.values()))} definitions in "
-            f"{len(found)} of {len(known)} modules, which have {length:,} "
-            "lines without comments and imports. Begin at the end, with `Headline` of tap_engine, "
-            "then `Reports` of run_reports, `Joined` of fanout_group and `Ring` of ring_model; "
-            "the rest is what these are made of. All others are for a crate's own contracts, "
-            "theorems and proofs."
-        ),
-        "",
     ]
-    for crate in sorted({place[0] for place in found}, key=order_of):
+
+
+def lines_of(known: dict[Place, Module], places: Iterable[Place]) -> int:
+    return sum(known[place].length for place in places)
+
+
+def listed(known: dict[Place, Module], places: set[Place]) -> list[str]:
+    """The modules at these places, a list item for each crate."""
+    lines = []
+    for crate in sorted({place[0] for place in places}, key=order_of):
         links = (
             f"[{name}](../crates/{crate}/specs/{name.replace('.', '/')}.antt)"
-            for which, name in known if which == crate and (which, name) in found
+            for which, name in known if which == crate and (which, name) in places
         )
         lines += wrapped(f"- {crate}: {', '.join(links)}")
-    return "\n".join(lines) + "\n"
+    return lines
 
 
 def wrapped(text: str) -> list[str]:
@@ -223,7 +251,7 @@ def main() -> None:
             "docs/definitions.md isn't what the sources give: `python3 checks/definitions.py "
             "--write` makes it anew"
         )
-    print(f"definitions: {text.count(chr(10) + '- ')} crates of which `run` reaches some")
+    print(f"definitions: {text.count(chr(10) + '- ')} lists of modules")
 
 
 if __name__ == "__main__":

@@ -16,8 +16,8 @@ from places import TOP
 
 REFERENCE = TOP / "docs/reference.md"
 COLUMNS = 110  # of a line of README.md
-# The crates of definitions and theorems alone: nothing of them runs, or is cited by what runs.
-WITHOUT_CALLS = {"deal_rules", "pace_laws", "replay_laws", "ring_events", "ring_laws"}
+# The crates of definitions and theorems alone that no code of another crate uses.
+WITHOUT_CALLS = {"replay_laws", "ring_events"}
 # The example of a crate's README: the source that it is from, and its lines.
 EXAMPLE = re.compile(
     r"^## Example\n\n.*?from\s+\[\w+\]\(([^)]+)\):\n\n```rust\n(.*?)^```", re.M | re.S | re.I
@@ -204,7 +204,7 @@ def names() -> Found:
 
 
 def libraries() -> list[str]:
-    """The crates with calls that do something when they run, and no tests."""
+    """The crates without tests whose code another crate uses."""
     found = []
     for path in sorted(TOP.glob("crates/*/src/lib.rt")):
         name = path.parent.parent.name
