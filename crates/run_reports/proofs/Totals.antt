@@ -48,4 +48,4 @@ module _ (packets : CountsEach) (drops : CountsDrops) (alike : CountsAsBlocks) w
   report_adds_up kind job bytes ends report h =
       let rings = rules_by kind job.setup.shape in
       totals_add_up rings.totals (counts_settled kind job.setup.shape) job rings.steps.size.room bytes ends report h.logs
-          h.group
+      h.group

@@ -100,4 +100,4 @@ size_lines kind unit report =
 unfoldable pub reader_refusal : ReaderError → List ℕ
 reader_refusal error =
     codes "reader line " ++ (decimal error.line ++ (codes ": "
-        ++ (kind_word error.kind ++ codes "\n")))
+    ++ (kind_word error.kind ++ codes "\n")))
