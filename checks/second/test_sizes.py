@@ -28,11 +28,16 @@ BY_HAND = [
     ([0] * 7, "pause 5", "4 phase 0 from 0", "3 phase 0 from 0", "3 phase 0 from 0"),
     # the fifth frame looks for block 3; a reader that begins at once has given block 1 back
     ([0] * 3 + [500] * 2, "pause 2", "3 phase 0 from 1", "0 phase 0 from 0", "1 phase 0 from 1"),
-    # a tick at 6 ms hands block 1 over, the reader at 6 ms gives it back, and a stall keeps it
-    ([0] + [7000] * 4, "pause 2\nphase 2", "2 phase 2 from 0", "0 phase 2 from 0",
-     "0 phase 2 from 0"),
-    ([0] + [7000] * 4, "pause 2\nphase 2\nstall 6 1", "3 phase 2 from 0", "1 phase 2 from 0",
-     "1 phase 2 from 0"),
+    # a tick at 6 ms hands block 1 over, and the reader gives it back before the others come
+    (
+        [0] + [7000] * 4, "pause 2\nphase 2\nfrom 0", "2 phase 2 from 0", "0 phase 2 from 0",
+        "0 phase 2 from 0"
+    ),
+    # a stall keeps it, so the fourth frame looks for block 3 with none given back
+    (
+        [0] + [7000] * 4, "pause 2\nphase 2\nfrom 0\nstall 6 1", "3 phase 2 from 0",
+        "2 phase 2 from 0", "2 phase 2 from 0"
+    ),
 ]
 
 
