@@ -1,7 +1,9 @@
-/* What ringsize answers for one member, in plain C with arrays: at each phase of the timer the blocks that a ring needs
-   so that it never freezes, and the packets that a ring of some blocks drops, for a reader that takes all after each
-   pause. The frames are those that bench/size_tables.py writes into a capture. Arguments: frames, time-out and pause in
+/* What ringsize answers for one member, in plain C with arrays: at each phase of the timer the
+   blocks that a ring needs so that it never freezes, and the packets that a ring of some blocks
+   drops, for a reader that takes all after each pause. The frames are those that
+   bench/size_tables.py writes into a capture. Arguments: frames, time-out and pause in
    milliseconds, and blocks. */
+#include <inttypes.h>
 #include <stdint.h>
 #include <stdio.h>
 #include <stdlib.h>
@@ -50,24 +52,30 @@ static void put(struct ring *ring, uint32_t need)
         ring->used += need;
 }
 
-static struct ring pass(uint64_t blocks, uint64_t tov, uint64_t phase, uint64_t pause, const struct arrival *arrivals,
-                        size_t count)
+/* What is asked, but for the phase: the frames, the time-out and the pause in milliseconds. */
+struct asked {
+    const struct arrival *arrivals;
+    size_t count;
+    uint64_t tov, pause;
+};
+
+static struct ring pass(const struct asked *asked, uint64_t blocks, uint64_t phase)
 {
-    uint64_t span = tov * MILLISECOND, tick_at = span - phase * MILLISECOND, read_at = 0;
+    uint64_t span = asked->tov * MILLISECOND, tick_at = span - phase * MILLISECOND, read_at = 0;
     struct ring ring = { .blocks = blocks, .most = 1 };
 
-    for (size_t i = 0; i < count; i++) {
-        uint64_t at = arrivals[i].at;
+    for (size_t i = 0; i < asked->count; i++) {
+        uint64_t at = asked->arrivals[i].at;
         while (tick_at <= at || read_at < at) {
             if (tick_at <= at && tick_at <= read_at) {
                 tick(&ring);
                 tick_at += span;
             } else {
                 ring.released = ring.done;
-                read_at += pause * MILLISECOND;
+                read_at += asked->pause * MILLISECOND;
             }
         }
-        put(&ring, arrivals[i].need);
+        put(&ring, asked->arrivals[i].need);
     }
     return ring;
 }
@@ -85,29 +93,40 @@ static struct arrival *make_arrivals(size_t count)
     return arrivals;
 }
 
+/* A number with the first phase at which it is reached. */
+struct place {
+    uint64_t number, phase;
+};
+
+static void print_answers(const struct asked *asked, uint64_t blocks)
+{
+    struct place need = { 0, 0 }, least = { NEVER, 0 }, most = { 0, 0 };
+    for (uint64_t phase = 0; phase < asked->tov; phase++) {
+        uint64_t here = pass(asked, NEVER, phase).most, drops = pass(asked, blocks, phase).drops;
+        if (here > need.number)
+            need = (struct place){ here, phase };
+        if (drops < least.number)
+            least = (struct place){ drops, phase };
+        if (drops > most.number)
+            most = (struct place){ drops, phase };
+    }
+    printf("member 0 blocks %" PRIu64 " phase %" PRIu64 " from 0\n", need.number, need.phase);
+    printf("member 0 drops least %" PRIu64 " phase %" PRIu64 " from 0", least.number, least.phase);
+    printf(" most %" PRIu64 " phase %" PRIu64 " from 0\n", most.number, most.phase);
+}
+
 int main(int argc, char **argv)
 {
     if (argc != 5)
         return 1;
     size_t count = strtoull(argv[1], NULL, 10);
-    uint64_t tov = strtoull(argv[2], NULL, 10), pause = strtoull(argv[3], NULL, 10), blocks = strtoull(argv[4], NULL, 10);
     struct arrival *arrivals = make_arrivals(count);
     if (!arrivals)
         return 1;
-    uint64_t worst = 0, worst_phase = 0, least = NEVER, least_phase = 0, most = 0, most_phase = 0;
-    for (uint64_t phase = 0; phase < tov; phase++) {
-        uint64_t need = pass(NEVER, tov, phase, pause, arrivals, count).most;
-        uint64_t drops = pass(blocks, tov, phase, pause, arrivals, count).drops;
-        if (worst < need)
-            worst = need, worst_phase = phase;
-        if (drops < least)
-            least = drops, least_phase = phase;
-        if (!phase || drops > most)
-            most = drops, most_phase = phase;
-    }
-    printf("member 0 blocks %llu phase %llu from 0\n", (unsigned long long)worst, (unsigned long long)worst_phase);
-    printf("member 0 drops least %llu phase %llu from 0 most %llu phase %llu from 0\n", (unsigned long long)least,
-           (unsigned long long)least_phase, (unsigned long long)most, (unsigned long long)most_phase);
+    struct asked asked = { arrivals, count, 0, 0 };
+    asked.tov = strtoull(argv[2], NULL, 10);
+    asked.pause = strtoull(argv[3], NULL, 10);
+    print_answers(&asked, strtoull(argv[4], NULL, 10));
     free(arrivals);
     return 0;
 }
