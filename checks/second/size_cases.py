@@ -57,11 +57,11 @@ def captured(numbers: random.Random, is_stray: bool) -> bytes:
     or before them."""
     records, now = [], numbers.randrange(3 * MILLISECOND)
     for burst in range(numbers.randrange(1, 6)):
-        sizes = numbers.choice([[60], [1514], [60, 590, 1514], [3900], [13, 60]])
+        sizes = numbers.choice([[1514], [1514], [60, 590, 1514], [3900], [60], [13, 60]])
         gap = numbers.choice([0, 1_000, 90_000, MILLISECOND])
         for data in fragments(numbers) if numbers.random() < 0.2 else [
             frame(numbers.choice(sizes), fill=numbers.randrange(256))
-            for _ in range(numbers.randrange(1, 16))
+            for _ in range(numbers.randrange(4, 20))
         ]:
             records.append((now, data))
             now += gap
@@ -82,10 +82,10 @@ def fragments(numbers: random.Random) -> list[bytes]:
 
 def reader_text(numbers: random.Random) -> str:
     lines = [numbers.choice([f"pause {numbers.randrange(1, 6)}", f"blocks {period(numbers)}"])]
-    for _ in range(numbers.choice([0, 0, 1, 2])):
+    for _ in range(numbers.choice([0, 1, 1, 2])):
         lines.append(f"stall {numbers.randrange(20)} {numbers.randrange(1, 25)}")
-    lines += numbers.choice([[], [], ["from all"], ["from 0"]])
-    lines += numbers.choice([[], [], ["phases all"], ["phase 0"]])
+    lines += numbers.choice([[], [], [], ["from all"], ["from all"], ["from 0"]])
+    lines += numbers.choice([[], [], [], ["phases all"], ["phases all"], ["phase 0"]])
     numbers.shuffle(lines)
     return "".join(f"{line}\n" for line in lines)
 
@@ -101,8 +101,8 @@ def drawn(seed: int, has_stray: bool = False) -> SizeCase:
     cpus, blocks = numbers.randrange(1, 3), numbers.randrange(2, 5)
     lines = [
         "block_size 4096", f"block_nr {blocks}", "frame_size 2048", f"frame_nr {2 * blocks}",
-        f"tov {numbers.randrange(1, 5)}", f"members {numbers.randrange(1, 4)}", f"key {KEY}",
-        f"mode {numbers.choice(['hash', 'lb', 'cpu', 'qm', 'rollover'])}",
+        f"tov {numbers.randrange(2, 6)}", f"members {numbers.randrange(1, 4)}", f"key {KEY}",
+        f"mode {numbers.choice(['hash', 'lb', 'cpu', 'cpu', 'qm', 'rollover'])}",
         *(f"cpu in{cpu}.pcap {5 * cpu}" for cpu in range(cpus)),
         *(line for line in ("flag defrag", "priv 13") if numbers.random() < 0.3),
     ]
