@@ -16,7 +16,8 @@ captures.py tests all others.
 
 It follows docs/reference.md and the definitions of the crates' specs/ with lists and slices, for
 texts that are accepted: setups are in setup.py, frames in frames.py, rings in rings.py, runs in
-runs.py, readers in readers.py and the sizes of rings in sizes.py. Paths in a setup count from the folder in which this is run, as they do for ringtap.
+runs.py, readers in readers.py and the sizes of rings in sizes.py. Paths in a setup count from the
+folder in which this is run, as they do for ringtap.
 """
 from __future__ import annotations
 
