@@ -51,7 +51,7 @@ def test_version(made: Path) -> None:
         ["dpkg-deb", "-f", one(made, "*.deb"), "Version"], capture_output=True, text=True,
         check=True
     ).stdout.strip()
-    assert said == re.search(r"^## (\S+)", (TOP / "CHANGELOG.md").read_text(), re.M)[1]
+    assert said == re.search(r"^## (\d\S*)", (TOP / "CHANGELOG.md").read_text(), re.M)[1]
     assert one(made, "*.tar.gz").name.startswith(f"ringtap_{said}_")
 
 
