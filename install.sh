@@ -1,11 +1,12 @@
 #!/bin/sh
-# sh install.sh PREFIX: puts the program, the tools, their man pages, completion for bash, and the
+# sh install.sh PREFIX: puts the programs, the tools, their man pages, completion for bash, and the
 # documents with the demo and the examples below a folder, as /usr/local.
 #
-# The program is bin/ringtap, which demo/build.sh builds, or the one that RINGTAP names; ringsize, of
-# bin/ or as RINGSIZE names it, goes along where it is there. The tools need python3, and run from any folder: ringtap-size,
-# ringtap-lost and so on, in PREFIX/bin, are links to the files in PREFIX/lib/ringtap. The documents
-# lie in PREFIX/share/doc/ringtap as in the repository, with all that they link to.
+# The programs are bin/ringtap and bin/ringsize, which demo/build.sh builds, or those that RINGTAP
+# and RINGSIZE name; ringsize goes along where it is there. The tools need python3, and run from any
+# folder: ringtap-size, ringtap-lost and so on, in PREFIX/bin, are links to the files in
+# PREFIX/lib/ringtap. The documents lie in PREFIX/share/doc/ringtap as in the repository, with all
+# that they link to.
 set -eu
 if [ $# -ne 1 ] || [ -z "$1" ]; then
     echo "usage: sh install.sh PREFIX" >&2
@@ -15,7 +16,8 @@ here=$(cd "$(dirname "$0")" && pwd)
 program=${RINGTAP:-$here/bin/ringtap}
 sizer=${RINGSIZE:-$here/bin/ringsize}
 if [ ! -x "$program" ]; then
-    echo "install.sh: $program isn't there: \`sh demo/build.sh\` builds it, and RINGTAP names another" >&2
+    echo "install.sh: $program isn't there: \`sh demo/build.sh\` builds it," \
+        "and RINGTAP names another" >&2
     exit 1
 fi
 if ! command -v python3 >/dev/null; then
@@ -45,7 +47,9 @@ put 755 "$prefix/bin" "$program"
 if [ "${program##*/}" != ringtap ]; then
     mv "$prefix/bin/${program##*/}" "$prefix/bin/ringtap"
 fi
+programs=bin/ringtap
 if [ -x "$sizer" ]; then
+    programs="$programs, bin/ringsize"
     put 755 "$prefix/bin" "$sizer"
     put 644 "$prefix/share/man/man1" "$here/docs/ringsize.1"
     echo "complete -o default ringsize" >"$completions/ringsize"
@@ -59,7 +63,10 @@ python3 -B "$here/tools/make_man.py" --names | while read -r file name; do
     chmod 755 "$library/$file"
     ln -sf "../lib/ringtap/$file" "$prefix/bin/$name"
     # The options of a tool are those that its help names.
-    options=$(python3 -B "$library/$file" --help | grep -oE -- '(^|[ ,[])--?[a-z][a-z0-9-]*' | tr -d ' ,[' | sort -u | tr '\n' ' ')
+    options=$(
+        python3 -B "$library/$file" --help | grep -oE -- '(^|[ ,[])--?[a-z][a-z0-9-]*' |
+            tr -d ' ,[' | sort -u | tr '\n' ' '
+    )
     echo "complete -o default -W '$options' $name" >"$completions/$name"
 done
 
@@ -90,4 +97,5 @@ PYTHON
 cat >"$documents/copyright" <<'END'
 ringtap: no licence is given yet; its owner has to choose one. This is to try and not to pass on.
 END
-echo "installed in $prefix: bin/ringtap and $(find "$prefix/bin" -name 'ringtap-*' | wc -l) tools"
+tools=$(find "$prefix/bin" -name 'ringtap-*' | wc -l)
+echo "installed in $prefix: $programs and $tools tools"

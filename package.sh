@@ -1,6 +1,7 @@
 #!/bin/sh
-# sh package.sh [FOLDER]: makes of bin/ringtap, or of the program that RINGTAP names, a package for
-# Debian and an archive of the same, ringtap_VERSION_ARCHITECTURE.deb and .tar.gz, in FOLDER or here.
+# sh package.sh [FOLDER]: makes of bin/ringtap and bin/ringsize, or of the programs that RINGTAP and
+# RINGSIZE name, a package for Debian and an archive of the same, ringtap_VERSION_ARCHITECTURE.deb
+# and .tar.gz, in FOLDER or here.
 # They are to try and not for an archive of packages. It needs dpkg-deb and python3.
 set -eu
 here=$(cd "$(dirname "$0")" && pwd)
@@ -29,9 +30,11 @@ Priority: optional
 Description: rings of Linux packet sockets as a user-space runtime
  It puts packet captures through the receive ring of a packet socket, and shows
  what its reader gets and how many packets are dropped because the ring is full.
+ ringsize prints the smallest ring with which none is.
 END
 (cd "$room/package" && find usr -type f -exec md5sum {} + >DEBIAN/md5sums)
 dpkg-deb --root-owner-group --build "$room/package" "$folder/$name.deb" >/dev/null
 mv "$room/package/usr" "$room/ringtap-$version"
-tar -C "$room" --owner=0 --group=0 --numeric-owner --sort=name -czf "$folder/$name.tar.gz" "ringtap-$version"
+tar -C "$room" --owner=0 --group=0 --numeric-owner --sort=name \
+    -czf "$folder/$name.tar.gz" "ringtap-$version"
 echo "made: $name.deb and $name.tar.gz"

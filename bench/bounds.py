@@ -12,6 +12,9 @@ MARGIN = 1.1
 # long.
 CASES_NEAR_C = 5
 NEAR_C = f"time to C, {CASES_NEAR_C} of the {len(CASES)} cases"
+PASSES = "ringsize to C, 1,000 phases of 100,000 frames"
+SIZE_GROWTH = "ringsize, CPU time of 100,000 frames to 50,000"
+SIZE_MEMORY = "ringsize, bytes a frame"
 INSTRUCTIONS = f"instructions a frame, {SMALL}"
 
 
@@ -42,6 +45,8 @@ ON_THREADS: Figures = {
     **{capture_of(EACH, 4, ring): 0.55 for ring in ("keeps", "keeps, 64 KiB")},
     capture_of(ONE, 8, "keeps"): 1.5,
 }
+
+OF_SIZES: Figures = {PASSES: 1.5, SIZE_GROWTH: 2.2, SIZE_MEMORY: 16}
 
 
 def shown(figure: float) -> str:

@@ -25,6 +25,7 @@ class Asked(argparse.Namespace):
     runs: int
     beside: str | None
     threads: bool
+    ringsize: bool
     results: bool
     program: str
 
@@ -36,6 +37,7 @@ class Asked(argparse.Namespace):
 TOP = os.path.join(os.path.dirname(os.path.abspath(__file__)), "..")
 WORK = os.path.join(TOP, "bench", "work")
 PROGRAM = os.path.join(TOP, "crates", "ringtap", "out", "ringtap")
+SIZER = os.path.join(TOP, "crates", "ringsize", "out", "ringsize")
 # The words of each command that runs the captures of a setup.
 COMMANDS = {
     "replay": ["replay", "conf", "sched"], "capture": ["capture", "conf"],

@@ -35,11 +35,18 @@ def same_files(members: int) -> bool:
     )
 
 
-def built_plain() -> str | None:
-    """Builds the program in C and gives its path, or says that there is no compiler."""
+def compiler_of() -> str | None:
+    """A C compiler; or it is said that there is none."""
     compiler = shutil.which("cc") or shutil.which("gcc")
     if not compiler:
         print("\nno C compiler, so nothing is compared with a program in C")
+    return compiler
+
+
+def built_plain() -> str | None:
+    """Builds the program in C and gives its path, if there is a compiler."""
+    compiler = compiler_of()
+    if not compiler:
         return None
     plain = os.path.join(WORK, "plain_ring")
     subprocess.run(

@@ -3,22 +3,23 @@
 file in the same run; then pcapng captures of the same frames; then groups of several members and
 CPUs, with a filter, and with reassembly; then `ringtap make`, `ringtap send` and `ringtap
 replay2`; then `ringtap capture` beside `replay` of the same captures, `ringtap forward` beside
-`capture`, and captures with pools of workers beside those without.
+`capture`, and captures with pools of workers beside those without; and at last `ringsize`.
 
-bench/run.py [--sizes 4,8,16,32] [--runs 5] [--beside OTHER | --threads] [--no-results] [PROGRAM]
+bench/run.py [--sizes 4,8,16,32] [--runs 5] [--beside OTHER | --threads | --ringsize]
+             [--no-results] [PROGRAM]
 
 PROGRAM is crates/ringtap/out/ringtap where none is named; it is built where it isn't there. The
 captures have frames of 60 bytes, of 1514 bytes, or of 60, 590 and 1514 bytes by turns. Each is
-replayed with a ring that keeps every frame and with one that drops. Those of 60 and of 1514
-bytes are sent through a ring of 2048 slots, and replayed over rings of TPACKET_V2. Files are
-written below bench/work. With --beside the replays alone are run, by turns with those of another
-program, as an earlier one; both must print the same. With --threads the captures on threads, the
-forwards and the pools alone are run. All that is printed is written into bench/results too, with
-date, commit and machine, but with --no-results.
+replayed with a ring that keeps every frame and with one that drops. Those of 60 and of 1514 bytes
+are sent through a ring of 2048 slots, and replayed over rings of TPACKET_V2. Files are written
+below bench/work. With --beside the replays alone are run, by turns with those of another program,
+as an earlier one; both must print the same. With --threads the captures on threads, the forwards
+and the pools alone are run, with --ringsize that program alone. All that is printed is written into
+bench/results too, with date, commit and machine, but with --no-results.
 
-The tables are in replay_tables.py, thread_tables.py, plain_tables.py and settings_table.py, the
-captures and setups in inputs.py, what is taken of a run in measurements.py, and what figures may
-be in bounds.py.
+The tables are in replay_tables.py, thread_tables.py, plain_tables.py, settings_table.py and
+size_tables.py, the captures and setups in inputs.py, what is taken of a run in measurements.py, and
+what figures may be in bounds.py.
 
 The captures on threads have 1, 2, 4 and 8 CPUs with 4 MiB each, and on one member 8. Of each row
 all times are taken by turns with a replay whose schedule is empty; the least and the middle one
@@ -36,22 +37,26 @@ replays and captures of four CPUs: a measure of what threads can give on a machi
 of 32 MiB and captures of four CPUs as they are, and where the C library is told by a word of the
 environment to ask for large pages, to keep its heap, or both.
 
+ringsize answers for all phases of a time-out of 1,000 ms over 100,000 drawn frames, by turns with
+bench/plain_pass.c, which has to answer the same; and for one phase over as many frames of 14 bytes
+as the captures of a setup may have, which says what it keeps of a frame.
+
 Time is that from start to end, CPU that of the processor for user and system, each the least of
 some runs. Memory is the largest resident size; the system counts no less than this script's own,
 about 14 MiB. Each run saves into new files: over old ones it would take the time too that the
 system needs to empty them.
 
-It ends with status 1 where a run fails, where CPU time or memory grows by more than 2.2 times
-from 16 to 32 MiB or from 10,000 to 20,000 made frames, where memory grows by more than 256 bytes
-for each frame that a filter refuses, where an instruction of a filter takes more than 1.5 times
-what it takes of libpcap (bench/filters.py), where a capture on threads that keeps all frames,
-with a member for each CPU, takes more than 2.5 times the CPU time of the replay, or where a
-figure passes its bound in bench/bounds.py by more than a tenth. The bounds are of the seven
-replays beside C, their time, memory and instructions, and of captures on threads of small frames
-beside replays. The last table has each of them with what was measured, and below it stand all
-figures that fail, each with its bound; what there is no compiler or no valgrind for isn't
-measured and fails nothing. With --threads the bounds of captures on threads alone are tested,
-with --beside none.
+It ends with status 1 where a run fails, where CPU time or memory grows by more than 2.2 times from
+16 to 32 MiB or from 10,000 to 20,000 made frames, where memory grows by more than 256 bytes for
+each frame that a filter refuses, where an instruction of a filter takes more than 1.5 times what it
+takes of libpcap (bench/filters.py), where a capture on threads that keeps all frames, with a member
+for each CPU, takes more than 2.5 times the CPU time of the replay, or where a figure passes its
+bound in bench/bounds.py by more than a tenth. The bounds are of the seven replays beside C, their
+time, memory and instructions, of captures on threads of small frames beside replays, and of
+ringsize beside C, its growth and its memory. The last table has each of them with what was
+measured, and below it stand all figures that fail, each with its bound; what there is no compiler
+or no valgrind for isn't measured and fails nothing. With --threads the bounds of captures on
+threads alone are tested, with --ringsize those of ringsize, with --beside none.
 """
 from __future__ import annotations
 
@@ -67,7 +72,7 @@ from collections.abc import Iterator
 from typing import TextIO
 
 import filters
-from bounds import BESIDE_C, ON_THREADS, Figures, passed_bounds
+from bounds import BESIDE_C, OF_SIZES, ON_THREADS, Figures, passed_bounds
 from measurements import PROGRAM, TOP, WORK, Asked
 from plain_tables import times_of_plain, times_of_plain_threads
 from replay_tables import (
@@ -75,6 +80,7 @@ from replay_tables import (
     times_of_replays, times_of_sent, times_of_slots,
 )
 from settings_table import times_of_settings
+from size_tables import times_of_sizes
 from thread_tables import (
     dear_captures, figures_of_threads, times_of_forwards, times_of_pools, times_of_processes,
     times_of_threads,
@@ -92,6 +98,7 @@ def asked_for() -> Asked:
     words.add_argument("--runs", type=int, default=5)
     words.add_argument("--beside", type=os.path.abspath)
     words.add_argument("--threads", action="store_true")
+    words.add_argument("--ringsize", action="store_true")
     words.add_argument("--no-results", dest="results", action="store_false")
     words.add_argument("program", nargs="?", default=PROGRAM, type=os.path.abspath)
     return words.parse_args(namespace=Asked())
@@ -142,7 +149,8 @@ def copied(asked: Asked) -> Iterator[None]:
         return
     os.makedirs(RESULTS, exist_ok=True)
     day, at = datetime.date.today().isoformat(), commit()
-    kind = "-beside" if asked.beside else "-threads" if asked.threads else ""
+    kinds = {"-beside": asked.beside, "-threads": asked.threads, "-ringsize": asked.ringsize}
+    kind = next((kind for kind, is_asked in kinds.items() if is_asked), "")
     with open(
         os.path.join(RESULTS, f"{day}-{at.rstrip('+')}{kind}.md"), "w", encoding="utf-8"
     ) as file:
@@ -174,6 +182,7 @@ def all_times(program: str, asked: Asked) -> tuple[list[str], Figures]:
     failures, figures = all_times_on_threads(program, asked)
     figures.update(times_of_plain(program, asked))
     times_of_settings(program, asked)
+    figures.update(times_of_sizes(asked))
     failures += memory_of_refused(program, asked)
     failures += filters.costs_of_filters()
     return failures + growth(found), figures
@@ -185,8 +194,10 @@ def tables_of(asked: Asked) -> list[str]:
     if asked.beside:
         times_beside(asked.program, asked.beside, asked)
         return []
+    if asked.ringsize:
+        return passed_bounds(OF_SIZES, times_of_sizes(asked))
     times, bounds = (all_times_on_threads, ON_THREADS) if asked.threads else (
-        all_times, {**BESIDE_C, **ON_THREADS}
+        all_times, {**BESIDE_C, **ON_THREADS, **OF_SIZES}
     )
     failures, figures = times(asked.program, asked)
     return failures + passed_bounds(bounds, figures)

@@ -17,7 +17,7 @@ from pathlib import Path
 import pytest
 
 import rights
-from places import PROGRAMS, UNBUILT
+from places import PROGRAMS, RINGSIZE, UNBUILT
 
 
 def built(program: Path) -> Path:
@@ -25,6 +25,12 @@ def built(program: Path) -> Path:
     if program == UNBUILT:
         pytest.fail("no program is built: `sh demo/build.sh` builds one, and RINGTAP names another")
     return program
+
+
+def pytest_addoption(parser: pytest.Parser) -> None:
+    parser.addoption(
+        "--setups", type=int, default=8, help="how many small setups ringsize is asked about"
+    )
 
 
 def pytest_configure(config: pytest.Config) -> None:
@@ -52,6 +58,14 @@ def program(request: pytest.FixtureRequest) -> Path:
 def first_program() -> Path:
     """The first of them, for what doesn't depend on the compiler."""
     return built(PROGRAMS[0])
+
+
+@pytest.fixture(scope="session")
+def sizer() -> Path:
+    """The other program, ringsize."""
+    if not os.access(RINGSIZE, os.X_OK):
+        pytest.fail(f"{RINGSIZE} isn't built: `sh demo/build.sh` builds it")
+    return RINGSIZE
 
 
 def new_room() -> Iterator[Path]:

@@ -10,7 +10,8 @@ TOP = Path(__file__).resolve().parent.parent
 OUT = TOP / "crates" / "ringtap" / "out"
 UNBUILT = Path("unbuilt")
 # the other program, which the tools ask where it is beside ringtap
-RINGSIZE = TOP / "crates" / "ringsize" / "out" / "ringsize"
+BUILT_SIZER = TOP / "crates" / "ringsize" / "out" / "ringsize"
+RINGSIZE = Path(os.environ.get("RINGSIZE", BUILT_SIZER)).resolve()
 sys.path.append(str(TOP / "tools"))
 
 

@@ -18,17 +18,9 @@ def works(words: Sequence[str]) -> bool:
         return False
 
 
-def raw_socket() -> bool:
+def opens_socket(family: int, protocol: int) -> bool:
     try:
-        socket.socket(socket.AF_INET, socket.SOCK_RAW, 253).close()
-    except OSError:
-        return False
-    return True
-
-
-def packet_socket() -> bool:
-    try:
-        socket.socket(socket.AF_PACKET, socket.SOCK_RAW, 0).close()
+        socket.socket(family, socket.SOCK_RAW, protocol).close()
     except OSError:
         return False
     return True
@@ -64,8 +56,8 @@ def chroot() -> bool:
 
 
 RIGHTS: dict[str, Callable[[], bool]] = {
-    "raw sockets": raw_socket,
-    "packet sockets": packet_socket,
+    "raw sockets": lambda: opens_socket(socket.AF_INET, 253),
+    "packet sockets": lambda: opens_socket(socket.AF_PACKET, 0),
     "mounts": small_mount,
     "network namespaces": network_namespace,
     "another user": other_user,

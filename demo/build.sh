@@ -1,6 +1,7 @@
 #!/bin/sh
-# sh demo/build.sh: proves the crates that ringtap and ringsize stand on, builds them, and makes links to them in bin/.
-# The first time takes about 25 minutes on four processors; where nothing has changed since, it takes a few seconds.
+# sh demo/build.sh: proves the crates that ringtap and ringsize stand on, builds the two, and makes
+# links to them in bin/. The first time takes about 25 minutes on four processors; where nothing has
+# changed since, it takes a few seconds.
 set -eu
 cd "$(dirname "$0")/.."
 if ! command -v rt >/dev/null; then
@@ -22,7 +23,7 @@ needed() {
     ' crates.txt
 }
 
-# One line of how far it is: libraries that are proved, what is being proved, and the minutes so far.
+# One line of how far it is: libraries that are proved, what is being proved, the minutes so far.
 progress() {
     proved=0
     now=
@@ -53,7 +54,8 @@ show_progress() {
     [ ! -t 2 ] || printf '\r\033[K' >&2
 }
 
-# Builds a program. `rt run` runs what it built, and here with words that name no file: status 5 is the program's own.
+# Builds a program. `rt run` runs what it built, and here with words that name no file: status 5 is
+# the program's own.
 build() {
     program=$1
     shift

@@ -24,7 +24,7 @@ TOOLS = [
         "size", "timeline",
     )
 ]
-PAGES = ["ringtap", *TOOLS]
+PAGES = ["ringtap", "ringsize", *TOOLS]
 
 
 def install(program: Path, *words: object) -> subprocess.CompletedProcess:
@@ -130,6 +130,12 @@ def test_groff_takes_a_page(name: str, installed: Installed) -> None:
 def test_the_program(installed: Installed) -> None:
     done = installed.run("ringtap", "replay", "small.txt", "../demo/schedule.txt")
     assert done.stdout == (TOP / "demo/expected/small/lines.txt").read_text()
+
+
+def test_the_other_program(installed: Installed) -> None:
+    (installed.folder / "reader.txt").write_text("pause 10\n")
+    done = installed.run("ringsize", "small.txt", "reader.txt")
+    assert re.search(r"^group blocks 6 phase \d from \d$", done.stdout, re.M), done.stdout
 
 
 # Each tool finds the installed program, and the reference beside it.

@@ -7,24 +7,18 @@ another one at each run; what the runs here give is the same. Then each thread i
 started: such a run gives what every other gives."""
 from __future__ import annotations
 
-import os
 import shutil
-import subprocess
-from collections.abc import Iterable, Iterator
-from dataclasses import dataclass
 from pathlib import Path
 
 import pytest
 
-import running
+from outside.refusing import OLD, Refusing
 from places import TOP
 
 pytestmark = pytest.mark.needs("cc")
 
 # Two CPUs, each with a member, a filter that passes all, and a timer whose moments close no block.
 TWO = "cpu a.pcap\nmembers 2\nfilter pass.ddd\nticks ticks.txt\n"
-# What an output holds before a run.
-OLD = b"old"
 # The words of a run, and how many requests it makes at least.
 RUNS = [
     ("check two.txt", 10), ("replay setup.txt schedule.txt", 20),
@@ -33,59 +27,8 @@ RUNS = [
 ]
 
 
-@dataclass
-class Ended:
-    """A run's status, its lines and its files."""
-
-    status: int
-    lines: str
-    files: dict[str, bytes]
-
-
-@dataclass
-class Refusing:
-    """A folder in which runs are refused something."""
-
-    path: Path
-    program: Path
-
-    def run(self, words: str, outputs: Iterable[str] = (), **refused: int) -> Ended:
-        for old in [*self.path.glob("out.*"), self.path / "told", self.path / "left"]:
-            old.unlink(missing_ok=True)
-        for name in outputs:
-            (self.path / name).write_bytes(OLD)
-        preload = {
-            "LD_PRELOAD": f"{self.path}/refuse.so", "TOLD": f"{self.path}/told",
-            "LEFT": f"{self.path}/left"
-        }
-        environment = {
-            **os.environ, **(preload if refused else {}),
-            **{name: str(number) for name, number in refused.items()}
-        }
-        done, why = running.run([self.program, *words.split()], cwd=self.path, env=environment)
-        assert done is not None, f"{refused}: {why}"
-        assert not (self.path / "left").exists(), f"{refused}: a thread is left"
-        return Ended(
-            done.returncode, done.stdout.decode(),
-            {path.name: path.read_bytes() for path in self.path.glob("out.*")}
-        )
-
-    def each(self, words: str, what: str, outputs: Iterable[str]) -> Iterator[tuple[int, Ended]]:
-        """The run with each request of a kind refused, by its number, until none is. These outputs
-        are there before each."""
-        number = 1
-        while True:
-            ended = self.run(words, outputs, **{what: number})
-            if not (self.path / "told").exists():
-                return
-            yield number, ended
-            number += 1
-
-
 @pytest.fixture
 def refusing(room: Path, program: Path) -> Refusing:
-    source = Path(__file__).parent / "refuse.c"
-    subprocess.run(["cc", "-shared", "-fPIC", "-o", room / "refuse.so", source, "-ldl"], check=True)
     shutil.copytree(TOP / "crates/ringtap/data", room, dirs_exist_ok=True)
     setup = (room / "setup.txt").read_text() + "dump yes\n"
     for name, text in {

@@ -51,7 +51,7 @@ def test_version(made: Path) -> None:
         ["dpkg-deb", "-f", one(made, "*.deb"), "Version"], capture_output=True, text=True,
         check=True
     ).stdout.strip()
-    assert said == re.search(r"^## (\S+)", (TOP / "CHANGELOG.md").read_text(), re.M)[1]
+    assert said == re.search(r"^## (\d\S*)", (TOP / "CHANGELOG.md").read_text(), re.M)[1]
     assert one(made, "*.tar.gz").name.startswith(f"ringtap_{said}_")
 
 
@@ -104,10 +104,11 @@ def libraries(program: Path) -> list[Path]:
     return [Path(word) for word in re.findall(r"(/\S+) \(0x", said)]
 
 
-def test_the_program_needs_libc_alone(unpacked: Path) -> None:
+@pytest.mark.parametrize("name", ["ringtap", "ringsize"])
+def test_a_program_needs_libc_alone(name: str, unpacked: Path) -> None:
     names = {
         re.sub(r"[-.]so.*|\.so.*", "", path.name)
-        for path in libraries(unpacked / "usr/bin/ringtap")
+        for path in libraries(unpacked / "usr/bin" / name)
     }
     assert names <= {"libc", "libm", "libgcc_s", "ld-linux-x86-64", "ld-linux-aarch64"}
 
@@ -213,7 +214,12 @@ def test_readme(root: Path) -> None:
             r"^total arrivals 52 filtered 0 kept 43 drops 9$"
         ),
         ("ringtap-size --version", r"^ringtap-size \(ringtap\) "),
+        ("ringtap replay demo/small.txt demo/schedule.txt", r"^member 0 packets 52 drops 9 "),
+        (
+            "echo 'pause 10' >reader.txt && ringsize demo/small.txt reader.txt",
+            r"^group blocks 6 phase \d from \d$"
+        ),
     ]
 )
-def test_a_tool_runs(root: Path, command: str, pattern: str) -> None:
+def test_it_runs(root: Path, command: str, pattern: str) -> None:
     assert re.search(pattern, by_user(root, command), re.M)

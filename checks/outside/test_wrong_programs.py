@@ -10,7 +10,7 @@ from pathlib import Path
 
 import pytest
 
-from outside.wrong_program import IDEAS
+from outside.wrong_program import IDEAS, SIZE_IDEAS
 from places import TOP
 
 SMALL = "outside/test_demo.py::test_demo[wrong-small]"
@@ -24,22 +24,40 @@ BY = {
         "outside/test_files.py::test_a_name_of_256_bytes_in_the_setup[wrong]"
     ),
 }
+# The same of ringsize.
+SIZES = "second/test_sizes.py::test_answers[2]"
+SIZE_BY = {"damage as success": "outside/test_ringsize.py::test_a_capture_that_is_cut"}
 
 
-@pytest.mark.parametrize("idea", IDEAS)
-def test_a_wrong_program_fails_a_test(idea: str, first_program: Path, room: Path) -> None:
+def wrong_program(idea: str, program: Path, room: Path) -> Path:
+    """The program with an idea."""
     wrong = room / "wrong"
-    mine, script = shutil.copy(first_program, room / "program"), shutil.copy(
+    mine, script = shutil.copy(program, room / "program"), shutil.copy(
         TOP / "checks/outside/wrong_program.py", room
     )
     os.chmod(mine, 0o755)
     wrong.write_text(f'#!/bin/sh\nexec {sys.executable} -B {script} "{idea}" {mine} "$@"\n')
     wrong.chmod(0o755)
-    test = BY.get(idea, SMALL)
-    environment = {**os.environ, "RINGTAP": str(wrong)}
+    return wrong
+
+
+def fails(test: str, **environment: str) -> None:
+    """A test fails, by its name."""
     words = [sys.executable, "-B", "-m", "pytest", "-q", "-p", "no:cacheprovider", f"checks/{test}"]
     done = subprocess.run(
-        words, cwd=TOP, env=environment, capture_output=True, text=True, check=False
+        words, cwd=TOP, env={**os.environ, **environment}, capture_output=True, text=True,
+        check=False
     )
     assert done.returncode == 1, done.stdout
     assert re.search(rf"^FAILED checks/{re.escape(test)}", done.stdout, re.M), done.stdout
+
+
+@pytest.mark.parametrize("idea", IDEAS)
+def test_a_wrong_program_fails_a_test(idea: str, first_program: Path, room: Path) -> None:
+    fails(BY.get(idea, SMALL), RINGTAP=str(wrong_program(idea, first_program, room)))
+
+
+@pytest.mark.parametrize("idea", SIZE_IDEAS)
+def test_a_wrong_ringsize_fails_a_test(idea: str, sizer: Path, room: Path) -> None:
+    test = SIZE_BY.get(idea, SIZES)
+    fails(test, RINGSIZE=str(wrong_program(idea, sizer, room)))

@@ -99,6 +99,18 @@ IDEAS: dict[str, Callable[[Ended], Ended]] = {
     "a line more": lambda ended: ended._replace(lines=ended.lines + "\n"),
 }
 
+# The same of ringsize.
+SIZE_IDEAS: dict[str, Callable[[Ended], Ended]] = {
+    "a block too few": counted(r"^(group blocks )(\d+)", -1),
+    "a block too many for a member": counted(r"^(member 0 blocks )(\d+)", 1),
+    "a phase that isn't the first": counted(r"^(member 0 blocks .* phase )(\d+)", 1),
+    "a beginning that isn't the first": counted(r"^(member 0 blocks .* from )(\d+)", 1),
+    "a drop not counted at the worst": counted(r"^(member 0 drops .* most )(\d+)", -1),
+    "a drop at the best": counted(r"^(member 0 drops least )(\d+)", 1),
+    "an arrival not counted": counted(r"^(cpu 0 .* arrivals )(\d+)", -1),
+    "damage as success": lambda ended: ended._replace(status=0),
+}
+
 
 def main(idea: str, words: list[str]) -> int:
     before = {path: path.stat().st_mtime_ns for path in Path().iterdir()}
@@ -108,7 +120,7 @@ def main(idea: str, words: list[str]) -> int:
         for path in Path().iterdir()
         if path.is_file() and before.get(path) != path.stat().st_mtime_ns
     ]
-    ended = IDEAS[idea](
+    ended = (IDEAS | SIZE_IDEAS)[idea](
         Ended(done.stdout.decode(), done.returncode, {path.name: path.read_bytes() for path in new})
     )
     for path in new:

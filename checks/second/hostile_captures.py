@@ -269,7 +269,14 @@ def pages_of(words: list[str]) -> int:
 
 def write_texts(capture: str, lines: str) -> None:
     text = setup_text(SIZES[0]).replace("in0.pcap", capture) + lines
-    save(".", {"conf": text.encode(), "sched": b""})
+    save(".", {"conf": text.encode(), "sched": b"", "reader": b"pause 1\nfrom 0\nphase 0\n"})
+
+
+def words_of(program: str, command: str) -> list[str]:
+    """The words of a run; of ringsize, which has no command, by its name."""
+    if command == "ringsize":
+        return [program, "conf", "reader"]
+    return [program, command, "conf"] + ["sched"] * (command == "replay")
 
 
 def grows(program: str, command: str, name: str, lines: str) -> str | None:
@@ -277,7 +284,7 @@ def grows(program: str, command: str, name: str, lines: str) -> str | None:
     counts, pages = [], []
     for capture in ("half.pcap", "whole.pcap"):
         write_texts(capture, lines)
-        words = [program, command, "conf"] + ["sched"] * (command == "replay")
+        words = words_of(program, command)
         count, why = work_of(words)
         if count is None:
             return f"{name}, {command}: {why}"
@@ -332,6 +339,13 @@ def whys_of_form(program: str, name: str) -> Iterator[str]:
     # A `send` reads no line of a group.
     whys = [grows(program, command, name, lines) for command in ["replay", *["send"] * (not lines)]]
     yield from filter(None, [*whys, ends_on_threads(program, name, lines)])
+
+
+def size_grows(sizer: str, name: str) -> str | None:
+    """What is wrong with the work of ringsize for a form, which is written, if something is."""
+    data_of, lines = FORMS[name]
+    write_form(data_of)
+    return grows(sizer, "ringsize", name, lines)
 
 
 def refuse_huge_pages() -> None:

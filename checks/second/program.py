@@ -7,6 +7,7 @@ out apart from its code.
     second_program.py capture SETUP [FOLDER]           of threads of which nothing hangs on them
     second_program.py make SETUP [FOLDER]              of frames made from the setup's number
     second_program.py send SETUP [FOLDER]              of a capture sent through a transmit ring
+    second_program.py ringsize SETUP READER            the lines of ringsize
     second_program.py --demo                           writes demo/expected anew
 
 Nothing of a run on threads hangs on them where it tells no moment, and each ring has the packets
@@ -14,8 +15,9 @@ of one CPU and room for all of them: it then gives what a replay with an empty s
 captures.py tests all others.
 
 It follows docs/reference.md and the definitions of the crates' specs/ with lists and slices, for
-texts that are accepted: setups are in setup.py, frames in frames.py, rings in rings.py and runs
-in runs.py. Paths in a setup count from the folder in which this is run, as they do for ringtap.
+texts that are accepted: setups are in setup.py, frames in frames.py, rings in rings.py, runs in
+runs.py, readers in readers.py and the sizes of rings in sizes.py. Paths in a setup count from the
+folder in which this is run, as they do for ringtap.
 """
 from __future__ import annotations
 
@@ -24,12 +26,14 @@ import sys
 from pathlib import Path
 
 from second import filter_verdicts
+from second.readers import Reader
 from second.rings import Ring, SlotRing
 from second.runs import Files, make, replay, send
 from second.setup import Setup
+from second.sizes import Sizing
 
 # how many texts a command reads
-TEXTS = {"replay": 2, "replay2": 2, "make": 1, "send": 1, "capture": 1}
+TEXTS = {"replay": 2, "replay2": 2, "make": 1, "send": 1, "capture": 1, "ringsize": 2}
 DEMO = {
     "setup": ["replay", "demo/setup.txt", "demo/schedule.txt"],
     "small": ["replay", "demo/small.txt", "demo/schedule.txt"],
@@ -54,9 +58,12 @@ def run(command: str, setup_path: str, schedule_path: str | None = None) -> tupl
     program = filter_verdicts.program(text_of(setup.filter)) if setup.filter else None
     if command == "make":
         return make(setup, program)
-    schedule = text_of(schedule_path) if schedule_path else ""
-    kind = SlotRing if command == "replay2" else Ring
-    return replay(setup, schedule, [path.read_bytes() for path in captures], program, kind)
+    schedule, data = text_of(schedule_path) if schedule_path else "", [
+        path.read_bytes() for path in captures
+    ]
+    if command == "ringsize":
+        return Sizing(setup, Reader(schedule), data, program).lines(), {}
+    return replay(setup, schedule, data, program, SlotRing if command == "replay2" else Ring)
 
 
 def save(folder: str, files: Files) -> None:

@@ -99,17 +99,25 @@ WORKED = [
 ]
 
 
+def worked_case(
+    command: str, lengths: Sequence[int], schedule: str, counts: tuple[int, int, int, int]
+) -> tuple[Case, str]:
+    """A case of a table, and its lines; the counts are kept, drops, freezes and blocks."""
+    arrivals = sum(size >= 14 for size in lengths)
+    kept, drops, freezes, blocks = counts
+    lines = (
+        f"cpu 0 frames {len(lengths)} arrivals {arrivals} end ok\n"
+        f"member 0 packets {kept + drops} drops {drops} freezes {freezes} blocks {blocks}\n"
+        f"total arrivals {arrivals} filtered 0 kept {kept} drops {drops}\n"
+    )
+    capture = header() + b"".join(record(frame(size)) for size in lengths)
+    return Case(command, setup_text(SIZES[0]), schedule, [capture]), lines
+
+
 def worked_cases() -> Iterator[tuple[Case, str, int]]:
     """The table: a case, its lines and the length of its file."""
-    for lengths, schedule, (kept, drops, freezes, blocks), length in WORKED:
-        arrivals = sum(size >= 14 for size in lengths)
-        lines = (
-            f"cpu 0 frames {len(lengths)} arrivals {arrivals} end ok\n"
-            f"member 0 packets {kept + drops} drops {drops} freezes {freezes} blocks {blocks}\n"
-            f"total arrivals {arrivals} filtered 0 kept {kept} drops {drops}\n"
-        )
-        capture = header() + b"".join(record(frame(size)) for size in lengths)
-        yield Case("replay", setup_text(SIZES[0]), schedule, [capture]), lines, length
+    for lengths, schedule, counts, length in WORKED:
+        yield *worked_case("replay", lengths, schedule, counts), length
 
 
 # The same over a ring of four slots of 2048 bytes: a slot has one packet and keeps 1982 bytes of
@@ -126,16 +134,9 @@ SLOTS_WORKED = [
 
 
 def slot_cases() -> Iterator[tuple[Case, str, int]]:
-    """The table: a case, its lines and the length of its file."""
+    """The table: a case, its lines and the length of its file. Nothing freezes."""
     for lengths, schedule, (kept, drops, slots), length in SLOTS_WORKED:
-        arrivals = sum(size >= 14 for size in lengths)
-        lines = (
-            f"cpu 0 frames {len(lengths)} arrivals {arrivals} end ok\n"
-            f"member 0 packets {kept + drops} drops {drops} freezes 0 blocks {slots}\n"
-            f"total arrivals {arrivals} filtered 0 kept {kept} drops {drops}\n"
-        )
-        capture = header() + b"".join(record(frame(size)) for size in lengths)
-        yield Case("replay2", setup_text(SIZES[0]), schedule, [capture]), lines, length
+        yield *worked_case("replay2", lengths, schedule, (kept, drops, 0, slots)), length
 
 
 def large_captures() -> Iterator[bytes]:

@@ -34,6 +34,12 @@ def test_growth(name: str, first_program: Path, inside: Path) -> None:
     assert list(hostile_captures.whys_of_form(str(first_program), name)) == []
 
 
+@pytest.mark.parametrize("name", hostile_captures.FORMS)
+def test_growth_of_sizes(name: str, sizer: Path, inside: Path) -> None:
+    """The same of ringsize, at one phase and beginning."""
+    assert hostile_captures.size_grows(str(sizer), name) is None
+
+
 def test_long_datagrams(first_program: Path, inside: Path) -> None:
     assert hostile_captures.long_datagrams_cost(str(first_program)) is None
 

@@ -1,0 +1,149 @@
+"""The answers of ringsize are those of a second program, for small setups with readers that are
+drawn and for captures that somebody made to do harm; and `ringtap replay` and rings of each
+number of blocks say the same. `--setups 300` asks for so many setups."""
+from __future__ import annotations
+
+import random
+import re
+from pathlib import Path
+
+import pytest
+
+import running
+from second import hostile_captures, outcomes
+from second.capture_bytes import header, record
+from second.replays import frame
+from second.rings import Ring
+from second.size_cases import LONG, Judge, SizeCase, drawn, schedule
+from second.readers import MILLISECOND
+from second.sizes import Roomy, Timed, feeds_of
+
+RING = "block_size 4096\nblock_nr 2\nframe_size 2048\nframe_nr 4\ncpu in0.pcap\n"
+STRAY = 1_000_000  # the numbers of setups with a stray time begin there
+# Of frames of 1514 bytes two fit into a block. The microseconds at which they come, the reader, and
+# what follows by hand from the rules: the smallest ring, the least and the most that two blocks
+# drop, each with its phase and beginning.
+BY_HAND = [
+    # each of seven frames at once; nobody reads before the last one, which needs a fourth block
+    ([0] * 7, "pause 5", "4 phase 0 from 0", "3 phase 0 from 0", "3 phase 0 from 0"),
+    # the fifth frame looks for block 3; a reader that begins at once has given block 1 back
+    ([0] * 3 + [500] * 2, "pause 2", "3 phase 0 from 1", "0 phase 0 from 0", "1 phase 0 from 1"),
+    # a tick at 6 ms hands block 1 over, and the reader gives it back before the others come
+    (
+        [0] + [7000] * 4, "pause 2\nphase 2\nfrom 0", "2 phase 2 from 0", "0 phase 2 from 0",
+        "0 phase 2 from 0"
+    ),
+    # a stall keeps it, so the fourth frame looks for block 3 with none given back
+    (
+        [0] + [7000] * 4, "pause 2\nphase 2\nfrom 0\nstall 6 1", "3 phase 2 from 0",
+        "2 phase 2 from 0", "2 phase 2 from 0"
+    ),
+]
+
+
+@pytest.mark.parametrize(("times", "reader", "ring", "least", "most"), BY_HAND)
+def test_second_program_by_hand(
+    times: list[int], reader: str, ring: str, least: str, most: str
+) -> None:
+    capture = header() + b"".join(record(frame(1514), fraction=time) for time in times)
+    lines = SizeCase(RING, reader, [capture]).sizing().lines().splitlines()
+    assert lines[1:] == [
+        f"member 0 blocks {ring}", f"group blocks {ring}",
+        f"member 0 drops least {least} most {most}"
+    ]
+
+
+def pytest_generate_tests(metafunc: pytest.Metafunc) -> None:
+    if "seed" in metafunc.fixturenames:
+        metafunc.parametrize("seed", range(metafunc.config.getoption("--setups")))
+
+
+def printed_by(sizer: Path, room: Path, case: SizeCase) -> tuple[str, int]:
+    case.write(room)
+    ran, why = running.run([sizer, "conf", "reader"], cwd=room)
+    assert ran is not None, why
+    assert ran.stderr == b""
+    return ran.stdout.decode(), ran.returncode
+
+
+def expected_of(case: SizeCase) -> tuple[str, int]:
+    """The lines of the second program, and the status."""
+    lines = case.sizing().lines()
+    ends = set(re.findall(r"^cpu .* end (\w+)", lines, re.M))
+    return lines, 3 if lines.endswith(" ms\n") else 0 if ends == {"ok"} else 4
+
+
+def agree(sizer: Path, room: Path, case: SizeCase) -> None:
+    (lines, status), (printed, ended) = expected_of(case), printed_by(sizer, room, case)
+    assert printed == lines, f"{outcomes.line_difference(lines, printed)}\n{case.shown()}"
+    assert ended == status, case.shown()
+
+
+def test_answers(seed: int, sizer: Path, room: Path) -> None:
+    agree(sizer, room, drawn(seed))
+
+
+def test_stray_times(seed: int, sizer: Path, room: Path) -> None:
+    """One frame that is a minute, or years, before or after the others."""
+    agree(sizer, room, drawn(STRAY + seed, has_stray=True))
+
+
+def test_schedule_written_out(seed: int) -> None:
+    """What the second program leaves out in a gap changes nothing: each line done alone gives the
+    same rings."""
+    sizing = drawn(seed).sizing()
+    for phase, begin in sizing.places:
+        whole = sizing.replay(Ring)
+        for line in schedule(sizing, sizing.setup.block_nr, phase, begin).splitlines():
+            word, value = line.split()
+            whole.line(word, int(value))
+        short = Timed(sizing.replay(Ring), sizing.reader, phase, begin).run()
+        assert [vars(ring) for ring in short] == [vars(ring) for ring in whole.rings]
+
+
+def test_by_trying_each_ring(seed: int) -> None:
+    """From 2 to 256 blocks, where a look that finds a block held is noted."""
+    sizing = drawn(seed).sizing()
+    needs = [max(ring.need for ring in rings) for rings in sizing.rings(Roomy)]
+    assert sizing.by_trying() == sizing.smallest(needs).number
+
+
+def test_by_ringtap(seed: int, sizer: Path, program: Path, room: Path) -> None:
+    """`ringtap replay` at each phase and beginning: the ring that is answered freezes nowhere, each
+    smaller one at its place, and the setup's own ring drops what is answered."""
+    case = drawn(seed)
+    judge = Judge(program, room, case, case.sizing())
+    printed, _ = printed_by(sizer, room, case)
+    answers = re.findall(r"^member (\d+) blocks (\d+) phase (\d+) from (\d+)", printed, re.M)
+    ranges = re.findall(r"^member \d+ drops least (.*) most (.*)", printed, re.M)
+    assert (answers == []) == judge.sizing.setup.rolls_over()
+    for (member, blocks, phase, begin), found in zip(answers, ranges, strict=True):
+        place = int(phase), int(begin)
+        assert judge.is_smallest(int(member), int(blocks), place), f"{printed}{case.shown()}"
+        drops = judge.drops(int(member))
+        limits = [judge.sizing.first(drops, each).text() for each in (min(drops), max(drops))]
+        assert [*found] == limits, f"{printed}{case.shown()}"
+
+
+def test_setups_are_short() -> None:
+    """So that their schedules can be written out."""
+    ends = [feeds_of(drawn(seed).sizing().replay(Ring).frames)[-1].moment for seed in range(50)]
+    assert max(ends) <= LONG * MILLISECOND
+
+
+# ---- captures that somebody made to do harm
+
+SHARES = 8
+READERS = ("pause 3\nfrom 1\n", "blocks 400\nphase 1\nfrom 0\nstall 5 900\n")
+
+
+@pytest.mark.parametrize("share", range(SHARES))
+def test_hostile_captures(share: int, sizer: Path, room: Path) -> None:
+    numbers = random.Random(7)
+    captures = [
+        *hostile_captures.extremes(), *hostile_captures.cuts(), *hostile_captures.changed(400)
+    ]
+    for at, capture in enumerate(captures):
+        text, reader = RING + numbers.choice(["tov 2\n", "flag defrag\ntov 3\n"]), READERS[at % 2]
+        if at % SHARES == share:
+            agree(sizer, room, SizeCase(text, reader, [capture]))
