@@ -115,8 +115,8 @@ fn least_ring(
 
 /// What a member is given, as a pass takes it.
 fn counted(arrivals: &DealtList) -> Result<&[Arrival], Memory>
-    ensures same { IfOk result (result.now ≡ arrivals.now) }
-    ensures few { IfOk result (length result.now < 2 ^ 60) }
+    ensures same { IfOk result (λ slice. slice.now ≡ arrivals.now) }
+    ensures few { IfOk result (λ slice. length slice.now < 2 ^ 60) }
 {
     // No memory holds so many.
     if TOO_MANY <= arrivals.len() {
