@@ -1,6 +1,9 @@
 pub mod Greatest
 pub mod Members
 pub mod Answering
+pub mod ReadFrames
+pub mod MemberLists
+pub mod TriedNumbers
 pub mod Measured
 pub mod CpuChains
 pub mod Clean

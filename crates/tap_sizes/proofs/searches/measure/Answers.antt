@@ -1,7 +1,8 @@
 use Rattle.std.proofs.Common.{◌≡◌, ◌<◌, ◌≤◌, ◌^◌, ◌*◌, List, arith, length, refl, rules, subst}
 use Rattle.reader_pace.specs.Timelines.{end_of}
 use Rattle.tap_sizes.proofs.Answering.{answerable}
-use Rattle.tap_sizes.proofs.Measured.{deal_early, end_run, laws_of, marks_of, reported}
+use Rattle.tap_sizes.proofs.Measured.{end_run, laws_of, marks_of, reported}
+use Rattle.tap_sizes.proofs.ReadFrames.{deal_early}
 use Rattle.tap_sizes.proofs.searches.measure.Goals as goal
 
 pub answers_of-requires-clause-answered : goal.answers_of-requires-clause-answered
