@@ -6,7 +6,9 @@ pub mod MemberLists
 pub mod TriedNumbers
 pub mod Measured
 pub mod CpuChains
+pub mod CpuLists
 pub mod Clean
+pub mod ReaderLimits
 pub mod MeantTexts
 pub mod Searched
 pub mod Completed

@@ -1,6 +1,7 @@
 -- The numbers of what was tried: those of the passes are those of the sizing.
 use Rattle.std.proofs.Common.{◌≡◌, ℕ, zero, suc, ◌+◌, ◌<◌, ◌≤◌, false, List, [], ◌∷◌, max, length}
 use Rattle.std.proofs.Common.{refl, sym, ap, ◌∙◌, subst, arith, get_or}
+use Rattle.deal_rules.specs.Files.{times_by}
 use Rattle.fanout_group.specs.Rules.{rolls_over}
 use Rattle.pace_laws.specs.LeastRings.{AreFewestDrops, AreMostDrops, IsLeastOfGroup, IsLeastRing, drops_at}
 use Rattle.pace_laws.specs.LeastRings.{greatest_of, group_least_at, least_at}
@@ -14,10 +15,10 @@ use Rattle.ring_sizes.specs.declared.paces.Timing.{Timing}
 use Rattle.ring_sizes.specs.declared.tries.Reached.{Reached}
 use Rattle.ring_sizes.specs.declared.tries.Tries.{Tries}
 use Rattle.setup_text.specs.declared.jobs.Job.{Job}
+use Rattle.tap_sizes.specs.Answers.{sizing_by}
 use Rattle.tap_sizes.specs.inside.Passes.{Clocks}
 use Rattle.tap_sizes.specs.inside.Passes.{drops_by, least_by, most_by}
 use Rattle.tp_layout.specs.Requests.{room_of}
-use Rattle.tap_sizes.proofs.ReadFrames.{times_by_file, sizing_in}
 
 -- ---- the laws of pace_laws for what was tried
 
@@ -64,28 +65,28 @@ abbrev pub clocks_of : PacedReader → Timing → ℕ → Clocks
 clocks_of reader its_pace last =
     record { pace = its_pace; stalls = stalls_of reader.stalls; end = last }
 
-pub least_same : (job : Job) (reader : PacedReader) (bytes : List (List ℕ)) (pace : Timing)
+pub least_same : (job : Job) (reader : PacedReader) (bytes : List (List (List ℕ))) (pace : Timing)
     (end member : ℕ) (arrivals : List Arrival) (phase from : ℕ)
-    → end ≡ end_of (times_by_file bytes) → arrivals ≡ given_to (sizing_in job reader bytes) member
+    → end ≡ end_of (times_by bytes) → arrivals ≡ given_to (sizing_by job reader bytes) member
     → least_by (room_of job.setup.shape) (clocks_of reader pace end) arrivals phase from
-    ≡ least_at (sizing_in job reader bytes) pace member phase from
+    ≡ least_at (sizing_by job reader bytes) pace member phase from
 least_same job reader bytes pace end member arrivals phase from ends given =
     ap (λ (a : List Arrival). least_by (room_of job.setup.shape) (clocks_of reader pace end) a phase
     from) given
     ∙ ap (λ (e : ℕ). least_by (room_of job.setup.shape) (clocks_of reader pace e)
-    (given_to (sizing_in job reader bytes) member) phase from) ends
+    (given_to (sizing_by job reader bytes) member) phase from) ends
 
-pub drops_same : (job : Job) (reader : PacedReader) (bytes : List (List ℕ)) (pace : Timing)
+pub drops_same : (job : Job) (reader : PacedReader) (bytes : List (List (List ℕ))) (pace : Timing)
     (end member : ℕ) (arrivals : List Arrival) (phase from : ℕ)
-    → end ≡ end_of (times_by_file bytes) → arrivals ≡ given_to (sizing_in job reader bytes) member
+    → end ≡ end_of (times_by bytes) → arrivals ≡ given_to (sizing_by job reader bytes) member
     → drops_by (room_of job.setup.shape) job.setup.shape.block_nr (clocks_of reader pace end)
     arrivals phase from
-    ≡ drops_at (sizing_in job reader bytes) pace member job.setup.shape.block_nr phase from
+    ≡ drops_at (sizing_by job reader bytes) pace member job.setup.shape.block_nr phase from
 drops_same job reader bytes pace end member arrivals phase from ends given =
     ap (λ (a : List Arrival). drops_by (room_of job.setup.shape) job.setup.shape.block_nr
     (clocks_of reader pace end) a phase from) given
     ∙ ap (λ (e : ℕ). drops_by (room_of job.setup.shape) job.setup.shape.block_nr
-    (clocks_of reader pace e) (given_to (sizing_in job reader bytes) member) phase from) ends
+    (clocks_of reader pace e) (given_to (sizing_by job reader bytes) member) phase from) ends
 
 -- ---- the greatest of all members
 
@@ -96,16 +97,16 @@ lowest number_of zero = omega arith
 lowest number_of (suc count) =
     let rest = lowest number_of count in omega (arith, rest)
 
-most_same : (job : Job) (reader : PacedReader) (bytes : List (List ℕ)) (pace : Timing) (end at : ℕ)
-    (all : List (List Arrival)) (phase from : ℕ) → end ≡ end_of (times_by_file bytes)
+most_same : (job : Job) (reader : PacedReader) (bytes : List (List (List ℕ))) (pace : Timing) (end at : ℕ)
+    (all : List (List Arrival)) (phase from : ℕ) → end ≡ end_of (times_by bytes)
     → ((member : ℕ) → member < length all
-    → get_or all member [] ≡ given_to (sizing_in job reader bytes) (at + member))
+    → get_or all member [] ≡ given_to (sizing_by job reader bytes) (at + member))
     → most_by (room_of job.setup.shape) (clocks_of reader pace end) all phase from
-    ≡ greatest_of (λ member. least_at (sizing_in job reader bytes) pace (at + member) phase from)
+    ≡ greatest_of (λ member. least_at (sizing_by job reader bytes) pace (at + member) phase from)
     (length all)
 most_same job reader bytes pace end at [] phase from ends given = refl
 most_same job reader bytes pace end at (arrivals ∷ all) phase from ends given =
-    let sizing = sizing_in job reader bytes in
+    let sizing = sizing_by job reader bytes in
     let one = least_same job reader bytes pace end (at + 0) arrivals phase from ends
     (given 0 (omega arith)) in
     let rest = most_same job reader bytes pace end (at + 1) all phase from ends
@@ -129,15 +130,15 @@ most_same job reader bytes pace end at (arrivals ∷ all) phase from ends given 
           ap (λ n. max n (one count)) (numbers_greatest one other count same)
           ∙ ap (λ n. max (greatest_of other count) n) (same count)
 
-pub group_same : (job : Job) (reader : PacedReader) (bytes : List (List ℕ)) (pace : Timing) (end : ℕ)
-    (all : List (List Arrival)) (phase from : ℕ) → end ≡ end_of (times_by_file bytes)
+pub group_same : (job : Job) (reader : PacedReader) (bytes : List (List (List ℕ))) (pace : Timing) (end : ℕ)
+    (all : List (List Arrival)) (phase from : ℕ) → end ≡ end_of (times_by bytes)
     → length all ≡ job.setup.plan.members
     → ((member : ℕ) → member < length all
-    → get_or all member [] ≡ given_to (sizing_in job reader bytes) member)
+    → get_or all member [] ≡ given_to (sizing_by job reader bytes) member)
     → most_by (room_of job.setup.shape) (clocks_of reader pace end) all phase from
-    ≡ group_least_at (sizing_in job reader bytes) pace phase from
+    ≡ group_least_at (sizing_by job reader bytes) pace phase from
 group_same job reader bytes pace end all phase from ends count given =
-    let sizing = sizing_in job reader bytes in
+    let sizing = sizing_by job reader bytes in
     most_same job reader bytes pace end 0 all phase from ends
     (λ member less. given member less ∙ ap (given_to sizing) (none member))
     ∙ zeros (length all)
@@ -146,13 +147,13 @@ group_same job reader bytes pace end all phase from ends count given =
       none member = omega arith
 
       zeros : (count : ℕ)
-          → greatest_of (λ member. least_at (sizing_in job reader bytes) pace (0 + member) phase from)
+          → greatest_of (λ member. least_at (sizing_by job reader bytes) pace (0 + member) phase from)
           count
-          ≡ greatest_of (λ member. least_at (sizing_in job reader bytes) pace member phase from) count
+          ≡ greatest_of (λ member. least_at (sizing_by job reader bytes) pace member phase from) count
       zeros zero = refl
       zeros (suc count) =
-          ap (λ n. max n (least_at (sizing_in job reader bytes) pace (0 + count) phase from))
+          ap (λ n. max n (least_at (sizing_by job reader bytes) pace (0 + count) phase from))
           (zeros count)
           ∙ ap (λ m. max (greatest_of
-          (λ member. least_at (sizing_in job reader bytes) pace member phase from) count)
-          (least_at (sizing_in job reader bytes) pace m phase from)) (sym (none count))
+          (λ member. least_at (sizing_by job reader bytes) pace member phase from) count)
+          (least_at (sizing_by job reader bytes) pace m phase from)) (sym (none count))
