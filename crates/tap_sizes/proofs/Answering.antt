@@ -1,10 +1,9 @@
 -- What the passes find, put together.
-use Rattle.std.proofs.Common.{◌≡◌, ℕ, ◌+◌, ◌<◌, ◌≤◌, ◌^◌, Bool, true, false, List, [], ◌∷◌, Option, None, Some}
+use Rattle.std.proofs.Common.{◌≡◌, ℕ, ◌<◌, ◌≤◌, ◌^◌, Bool, true, false, List, [], ◌∷◌, None, Some}
 use Rattle.std.proofs.Common.{refl, sym, ap, ◌∙◌, subst, get_or, length}
 use Rattle.std.specs.Prelude.{if◌then◌else◌}
 use Rattle.fanout_group.specs.Plans.{rolls_over}
 use Rattle.pace_laws.specs.Paces.{pace_of, stalls_of}
-use Rattle.reader_pace.specs.declared.paces.MoreFile.{MoreFile}
 use Rattle.reader_pace.specs.declared.readers.PacedReader.{PacedReader}
 use Rattle.ring_sizes.specs.Phases.{AreTried, IsFirstMost}
 use Rattle.ring_sizes.specs.declared.paces.Arrival.{Arrival}
@@ -15,19 +14,13 @@ use Rattle.ring_sizes.specs.declared.tries.Tries.{Tries}
 use Rattle.setup_text.specs.declared.setups.Setup.{Setup}
 use Rattle.size_printing.specs.declared.size_reports.ReadFile.{ReadFile}
 use Rattle.size_printing.specs.declared.size_reports.SizeReport.{SizeReport}
-use Rattle.tap_sizes.specs.Tried.{tries_by, unanswered_by, unanswered_more, unanswered_pace}
-use Rattle.tap_sizes.specs.declared.outcomes.Unanswered.{Unanswered}
-use Rattle.tap_sizes.specs.declared.outcomes.Unanswered.TheVariants.{More, Slots}
+use Rattle.tap_sizes.specs.Tried.{tries_by, unanswered_by, unanswered_pace}
+use Rattle.tap_sizes.specs.declared.outcomes.Unanswered.TheVariants.{Slots}
 use Rattle.tap_sizes.specs.inside.Passes.{AreDropRanges, AreFirstMost, IsAnsweredBy, greatest_ring, most_by}
 use Rattle.tap_sizes.proofs.Greatest.{group_most}
 use Rattle.tp_layout.specs.Requests.{room_of, time_out_of}
 
 -- ---- what is answered
-
-no_more_files : (more : List MoreFile) (rest : Option Unanswered) → unanswered_more more rest ≡ None
-    → rest ≡ None
-no_more_files [] rest is = is
-no_more_files (file ∷ files) rest is = cc
 
 pub record IsAnswerable (reader : PacedReader) : Type 0 where
   pub pace : unanswered_pace reader.pace ≡ None
@@ -36,13 +29,10 @@ pub record IsAnswerable (reader : PacedReader) : Type 0 where
 pub answerable : (reader : PacedReader) → unanswered_by reader ≡ None → IsAnswerable reader
 answerable reader none = by reader.slots refl none where
   by : (b : Bool) → reader.slots ≡ b
-      → (if b then Some Slots else unanswered_more reader.more (unanswered_pace reader.pace)) ≡ None
+      → (if b then Some Slots else unanswered_pace reader.pace) ≡ None
       → IsAnswerable reader
   by true is none = cc
-  by false is none = record {
-    pace = no_more_files reader.more (unanswered_pace reader.pace) none;
-    blocks = is;
-  }
+  by false is none = record { pace = none; blocks = is }
 
 -- ---- the answers
 

@@ -1,27 +1,27 @@
 -- Where no text can't be read no read failed, and each source that was opened is closed: for the
 -- texts one after another, and for what is found.
-use Rattle.std.proofs.Common.{◌≡◌, ℕ, ◌+◌, List, [], ◌∷◌, Option, None, Some, inl, inr, refl, sym, ap, ◌∙◌, subst, arith}
+use Rattle.std.proofs.Common.{◌≡◌, ℕ, ◌+◌, List, [], ◌∷◌, ◌++◌, Option, None, Some, inl, inr, refl, sym, ap, subst, arith}
 use Rattle.bpf_filter.specs.declared.insn.Insn.{Insn}
 use Rattle.reader_pace.specs.declared.reader_error.ReaderError.{ReaderError}
+use Rattle.reader_pace.specs.declared.paces.MoreFile.{MoreFile}
 use Rattle.reader_pace.specs.declared.readers.PacedReader.{PacedReader}
 use Rattle.setup_text.specs.declared.cpu_setups.CpuSetup.{CpuSetup}
 use Rattle.setup_text.specs.declared.jobs.Job.{Job}
 use Rattle.setup_text.specs.declared.text_error.TextError.{TextError}
-use Rattle.frame_deals.specs.Dealings.{Dealing}
+use Rattle.frame_deals.specs.Dealings.{Dealing, first_dealing}
 use Rattle.size_printing.specs.declared.size_reports.ReadFile.{ReadFile}
-use Rattle.tap_outside.proofs.Kept.{NoReadFailed-none, NoReadFailed-then, OnlyReads-same, OnlyReads-then}
+use Rattle.tap_outside.proofs.Kept.{NoReadFailed-none, NoReadFailed-then}
 use Rattle.tap_outside.proofs.Taken.{none_open, none_open_same, none_open_then}
 use Rattle.tap_outside.specs.Counts.{RoseBy}
 use Rattle.tap_outside.specs.Records.{NoneOpen}
-use Rattle.tap_outside.specs.Seen.{Entry, NoReadFailed, OnlyReads, StoreSeen}
+use Rattle.tap_outside.specs.Seen.{Entry, StoreSeen}
 use Rattle.tap_reading.specs.Fronts.{CantRead, RanOut, ReadTexts}
-use Rattle.tap_reading.specs.Readers.{ReadsAs}
 use Rattle.tap_running.specs.Captures.{fault_at}
 use Rattle.tap_running.specs.Counts.{IsCounted}
-use Rattle.tap_running.proofs.Counted.{counts_later, counts_none, counts_then}
-use Rattle.tap_sizes.specs.Readings.{AreCpusRead, file_faults}
+use Rattle.tap_running.proofs.Counted.{counts_none, counts_then}
+use Rattle.tap_sizes.specs.Readings.{AreAllRead, AreCpusRead, AreFilesTaken, file_faults, files_in, more_of}
 use Rattle.tap_sizes.specs.SizeFindings.{IsSizeFound}
-use Rattle.tap_sizes.specs.SizeTexts.{CantReadFilter, CantReadReader, CantReadText, HasBadFilter, HasBadReader}
+use Rattle.tap_sizes.specs.SizeTexts.{CantReadText, HasBadFilter, HasBadReader}
 use Rattle.tap_sizes.specs.SizeTexts.{IsJobRead, IsProgramRead, IsSizeAsked}
 use Rattle.tap_sizes.specs.SizeWords.{SizeNamed}
 use Rattle.tap_sizes.specs.declared.size_findings.SizeFinding.{SizeFinding}
@@ -111,36 +111,83 @@ unread_rose a b named (inr (inr reader)) =
 
 -- ---- the captures
 
-pub cpus_closed : (a b : StoreSeen) (job : Job) (cpu : ℕ) (setups : List CpuSetup)
-    (all : List (List ℕ)) (files : List ReadFile) (deals : List Dealing)
-    → AreCpusRead a b job cpu setups all files deals → NoneOpen a.sources b.sources
-cpus_closed a b job cpu [] [] [] [] are =
-    none_open_same a.sources b.sources (ap (λ (s : StoreSeen). s.sources) are)
-cpus_closed a b job cpu [] [] [] (d ∷ deals) are = absurd are
-cpus_closed a b job cpu [] [] (f ∷ files) deals are = absurd are
-cpus_closed a b job cpu [] (x ∷ all) files deals are = absurd are
-cpus_closed a b job cpu (s ∷ setups) [] files deals are = absurd are
-cpus_closed a b job cpu (s ∷ setups) (x ∷ all) [] deals are = absurd are
-cpus_closed a b job cpu (s ∷ setups) (x ∷ all) (f ∷ files) [] are = absurd are
-cpus_closed a b job cpu (s ∷ setups) (x ∷ all) (f ∷ files) (d ∷ deals) are =
+files_closed : (a b : StoreSeen) (job : Job) (cpu : ℕ) (names all : List (List ℕ))
+    (files : List ReadFile) (before after : Dealing)
+    → AreFilesTaken a b job cpu names all files before after → NoneOpen a.sources b.sources
+files_closed a b job cpu [] [] [] before after are =
+    none_open_same a.sources b.sources (ap (λ (s : StoreSeen). s.sources) are.0)
+files_closed a b job cpu [] [] (f ∷ files) before after are = absurd are
+files_closed a b job cpu [] (x ∷ all) files before after are = absurd are
+files_closed a b job cpu (n ∷ names) [] files before after are = absurd are
+files_closed a b job cpu (n ∷ names) (x ∷ all) [] before after are = absurd are
+files_closed a b job cpu (n ∷ names) (x ∷ all) (f ∷ files) before after are =
     none_open_then a.sources are.0.sources b.sources
-    (none_open a.sources are.0.sources _ are.1.file_is.given)
-    (cpus_closed are.0 b job (cpu + 1) setups all files deals are.2)
+    (none_open a.sources are.0.sources _ are.2.file_is.given)
+    (files_closed are.0 b job cpu names all files are.1 after are.3)
 
-pub cpus_counted : (a b : StoreSeen) (job : Job) (cpu : ℕ) (setups : List CpuSetup)
-    (all : List (List ℕ)) (files : List ReadFile) (deals : List Dealing)
-    → AreCpusRead a b job cpu setups all files deals → IsCounted a b (file_faults files)
-cpus_counted a b job cpu [] [] [] [] are =
+cpus_closed : (a b : StoreSeen) (job : Job) (more : List MoreFile) (cpu : ℕ) (setups : List CpuSetup)
+    (all : List (List (List ℕ))) (lists : List (List ReadFile)) (deals : List Dealing)
+    → AreCpusRead a b job more cpu setups all lists deals → NoneOpen a.sources b.sources
+cpus_closed a b job more cpu [] [] [] [] are =
+    none_open_same a.sources b.sources (ap (λ (s : StoreSeen). s.sources) are)
+cpus_closed a b job more cpu [] [] [] (d ∷ deals) are = absurd are
+cpus_closed a b job more cpu [] [] (f ∷ lists) deals are = absurd are
+cpus_closed a b job more cpu [] (x ∷ all) lists deals are = absurd are
+cpus_closed a b job more cpu (s ∷ setups) [] lists deals are = absurd are
+cpus_closed a b job more cpu (s ∷ setups) (x ∷ all) [] deals are = absurd are
+cpus_closed a b job more cpu (s ∷ setups) (x ∷ all) (f ∷ lists) [] are = absurd are
+cpus_closed a b job more cpu (s ∷ setups) (x ∷ all) (f ∷ lists) (d ∷ deals) are =
+    none_open_then a.sources are.0.sources b.sources
+    (files_closed a are.0 job cpu (s.file ∷ more_of cpu more) x f (first_dealing cpu job.setup.plan) d are.1)
+    (cpus_closed are.0 b job more (cpu + 1) setups all lists deals are.2)
+
+pub all_closed : (a b : StoreSeen) (job : Job) (more : List MoreFile) (all : List (List (List ℕ)))
+    (files : List ReadFile) (deals : List Dealing) → AreAllRead a b job more all files deals
+    → NoneOpen a.sources b.sources
+all_closed a b job more all files deals are =
+    cpus_closed a b job more 0 job.setup.cpus all are.by_cpu deals are.read_is
+
+pub faults_both : (files others : List ReadFile)
+    → file_faults (files ++ others) ≡ file_faults files + file_faults others
+faults_both [] others = omega arith
+faults_both (file ∷ files) others = let rest = faults_both files others in omega (arith, rest)
+
+files_counted : (a b : StoreSeen) (job : Job) (cpu : ℕ) (names all : List (List ℕ))
+    (files : List ReadFile) (before after : Dealing)
+    → AreFilesTaken a b job cpu names all files before after → IsCounted a b (file_faults files)
+files_counted a b job cpu [] [] [] before after are =
+    subst (λ (s : StoreSeen). IsCounted a s 0) (sym are.0) (counts_none 0 a refl)
+files_counted a b job cpu [] [] (f ∷ files) before after are = absurd are
+files_counted a b job cpu [] (x ∷ all) files before after are = absurd are
+files_counted a b job cpu (n ∷ names) [] files before after are = absurd are
+files_counted a b job cpu (n ∷ names) (x ∷ all) [] before after are = absurd are
+files_counted a b job cpu (n ∷ names) (x ∷ all) (f ∷ files) before after are =
+    counts_then (fault_at f.end) (file_faults files) a are.0 b are.2.file_is.counted
+    (files_counted are.0 b job cpu names all files are.1 after are.3)
+
+cpus_counted : (a b : StoreSeen) (job : Job) (more : List MoreFile) (cpu : ℕ) (setups : List CpuSetup)
+    (all : List (List (List ℕ))) (lists : List (List ReadFile)) (deals : List Dealing)
+    → AreCpusRead a b job more cpu setups all lists deals → IsCounted a b (file_faults (files_in lists))
+cpus_counted a b job more cpu [] [] [] [] are =
     subst (λ (s : StoreSeen). IsCounted a s 0) (sym are) (counts_none 0 a refl)
-cpus_counted a b job cpu [] [] [] (d ∷ deals) are = absurd are
-cpus_counted a b job cpu [] [] (f ∷ files) deals are = absurd are
-cpus_counted a b job cpu [] (x ∷ all) files deals are = absurd are
-cpus_counted a b job cpu (s ∷ setups) [] files deals are = absurd are
-cpus_counted a b job cpu (s ∷ setups) (x ∷ all) [] deals are = absurd are
-cpus_counted a b job cpu (s ∷ setups) (x ∷ all) (f ∷ files) [] are = absurd are
-cpus_counted a b job cpu (s ∷ setups) (x ∷ all) (f ∷ files) (d ∷ deals) are =
-    counts_then (fault_at f.end) (file_faults files) a are.0 b are.1.file_is.counted
-    (cpus_counted are.0 b job (cpu + 1) setups all files deals are.2)
+cpus_counted a b job more cpu [] [] [] (d ∷ deals) are = absurd are
+cpus_counted a b job more cpu [] [] (f ∷ lists) deals are = absurd are
+cpus_counted a b job more cpu [] (x ∷ all) lists deals are = absurd are
+cpus_counted a b job more cpu (s ∷ setups) [] lists deals are = absurd are
+cpus_counted a b job more cpu (s ∷ setups) (x ∷ all) [] deals are = absurd are
+cpus_counted a b job more cpu (s ∷ setups) (x ∷ all) (f ∷ lists) [] are = absurd are
+cpus_counted a b job more cpu (s ∷ setups) (x ∷ all) (f ∷ lists) (d ∷ deals) are =
+    subst (λ (n : ℕ). IsCounted a b n) (sym (faults_both f (files_in lists)))
+    (counts_then (file_faults f) (file_faults (files_in lists)) a are.0 b
+    (files_counted a are.0 job cpu (s.file ∷ more_of cpu more) x f (first_dealing cpu job.setup.plan) d are.1)
+    (cpus_counted are.0 b job more (cpu + 1) setups all lists deals are.2))
+
+pub all_counted : (a b : StoreSeen) (job : Job) (more : List MoreFile) (all : List (List (List ℕ)))
+    (files : List ReadFile) (deals : List Dealing) → AreAllRead a b job more all files deals
+    → IsCounted a b (file_faults files)
+all_counted a b job more all files deals are =
+    subst (λ (fs : List ReadFile). IsCounted a b (file_faults fs)) (sym are.files_are)
+    (cpus_counted a b job more 0 job.setup.cpus all are.by_cpu deals are.read_is)
 
 -- ---- what is found
 
@@ -166,10 +213,9 @@ found_closed a b (Some named) (finding.TooLong files) h =
     let read = h.0.read_is in
     none_open_then a.sources read.between.sources b.sources
     (clean_asked a read.between named h.0.job h.0.reader read.asked).closed
-    (cpus_closed read.between b h.0.job 0 h.0.job.setup.cpus h.0.bytes files read.deals read.read_is)
+    (all_closed read.between b h.0.job h.0.reader.more h.0.bytes files read.deals read.read_is)
 found_closed a b (Some named) (finding.Sized kind unit report) h =
     let read = h.0.read_is in
     none_open_then a.sources read.between.sources b.sources
     (clean_asked a read.between named h.0.job h.0.reader read.asked).closed
-    (cpus_closed read.between b h.0.job 0 h.0.job.setup.cpus h.0.bytes report.files read.deals
-    read.read_is)
+    (all_closed read.between b h.0.job h.0.reader.more h.0.bytes report.files read.deals read.read_is)

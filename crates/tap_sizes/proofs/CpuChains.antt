@@ -1,49 +1,204 @@
--- The CPUs that were read so far, and one more.
-use Rattle.std.proofs.Common.{◌≡◌, ℕ, ◌+◌, ◌<◌, ◌≤◌, List, [], ◌∷◌, ◌++◌, get_or, length, take, Option}
-use Rattle.std.proofs.Common.{zero, suc, refl, sym, ap, ◌∙◌, subst, arith, length-take-le}
-use Rattle.fanout_group.specs.Judgements.{AgreesAt}
-use Rattle.fanout_group.specs.RulesOfJudging.{judge_rules_of as judge_rules_of_rules}
-use Rattle.fanout_group.specs.declared.judgements.ArrivalRules.{ArrivalRules}
+-- The files of a CPU that were read so far, and one more.
+use Rattle.std.proofs.Common.{◌≡◌, ◌≢◌, ℕ, zero, suc, ◌+◌, ◌<◌, ◌≤◌, Bool, true, false, List, [], ◌∷◌, ◌++◌, get_or, length, take, Option}
+use Rattle.std.proofs.Common.{refl, sym, ap, ◌∙◌, subst, arith, append-nil, append_assoc, eq-eqb, ne_eqb}
+use Rattle.std.specs.Prelude.{◌==◌, if◌then◌else◌}
 use Rattle.std.proofs.lemmas.Option.{get_or_from_slice_get, slice_get_read}
 use Rattle.capture_file.specs.Capture.{frames_of}
-use Rattle.capture_file.specs.declared.cpu_end.CpuEnd.{CpuEnd}
-use Rattle.frame_deals.specs.Dealings.{Dealing, after_frames, first_dealing}
+use Rattle.fanout_group.specs.Judgements.{AgreesAt, rules_by}
+use Rattle.fanout_group.specs.Plans.{Shape}
+use Rattle.fanout_group.specs.Rules.{Rules}
+use Rattle.fanout_group.specs.RulesOfJudging.{judge_rules_of as judge_rules_of_rules}
+use Rattle.fanout_group.specs.declared.judgements.ArrivalRules.{ArrivalRules}
+use Rattle.frame_deals.specs.Dealings.{Dealing, after_frame, after_frames, first_dealing}
 use Rattle.frame_deals.specs.FileReadings.{HasReadFile}
 use Rattle.frame_deals.specs.declared.files.FileReading.{FileReading}
+use Rattle.frame_view.specs.declared.frames.Frame.{Frame}
+use Rattle.reader_pace.specs.declared.paces.MoreFile.{MoreFile}
 use Rattle.run_reports.specs.Jobs.{judge_rules_of, rules_of}
 use Rattle.setup_text.specs.declared.cpu_setups.CpuSetup.{CpuSetup}
 use Rattle.setup_text.specs.declared.jobs.Job.{Job}
 use Rattle.size_printing.specs.declared.size_reports.ReadFile.{ReadFile}
 use Rattle.tap_outside.specs.Seen.{SourceSeen, StoreSeen}
-use Rattle.tap_running.specs.Files.{IsClosed, IsFetched, IsFileRead}
+use Rattle.tap_running.specs.Files.{IsClosed, IsFetched}
 use Rattle.tap_running.proofs.FileReads.{file_read}
 use Rattle.tap_running.proofs.Growing.{one_more}
-use Rattle.tap_sizes.specs.Readings.{AreCpusRead, IsCpuRead, dealing_of}
+use Rattle.tap_sizes.specs.Readings.{AreFilesTaken, IsCpuRead, IsFileTaken, more_of}
 use Rattle.tp_layout.specs.Requests.{room_of}
 
--- one CPU
-pub cpu_read : (a b c : StoreSeen) (job : Job) (cpu : ℕ) (name : List ℕ)
-    (before after : Option SourceSeen) (rules : ArrivalRules) (deal : Dealing)
+-- ---- one file
+
+-- taking frames changes neither the number of a CPU nor the shape of its group
+cpu_stays : (rules : Rules) (room : ℕ) (frames : List Frame) (deal : Dealing)
+    → (after_frames rules room frames deal).cpu ≡ deal.cpu
+cpu_stays rules room [] deal = refl
+cpu_stays rules room (frame ∷ frames) deal =
+    cpu_stays rules room frames (after_frame rules room frame deal)
+
+shape_stays : (rules : Rules) (room : ℕ) (frames : List Frame) (deal : Dealing)
+    → (after_frames rules room frames deal).shape ≡ deal.shape
+shape_stays rules room [] deal = refl
+shape_stays rules room (frame ∷ frames) deal =
+    shape_stays rules room frames (after_frame rules room frame deal)
+
+-- the frames that were taken, by the rules of the job
+taken_by : (job : Job) (cpu : ℕ) (before after : Option SourceSeen) (rules : ArrivalRules)
+    (old new : Dealing) (reading : FileReading)
+    → (read : HasReadFile rules before after old new reading) → old.cpu ≡ cpu → old.shape ≡ job.setup.plan
+    → AgreesAt cpu (judge_rules_of job) (judge_rules_of_rules rules)
+    → rules.room ≡ room_of job.setup.shape
+    → new ≡ after_frames (rules_of job) (room_of job.setup.shape) (frames_of cpu read.bytes) old
+taken_by job cpu before after rules old new reading read number shape agrees room =
+    read.took (judge_rules_of job)
+    (subst (λ (n : ℕ). AgreesAt n (judge_rules_of job) (judge_rules_of_rules rules)) (sym number) agrees)
+    ∙ ap (λ (s : Shape). after_frames (rules_by s (judge_rules_of job)) rules.room
+    (frames_of old.cpu read.bytes) old) shape
+    ∙ ap (λ (r : ℕ). after_frames (rules_of job) r (frames_of old.cpu read.bytes) old) room
+    ∙ ap (λ (n : ℕ). after_frames (rules_of job) (room_of job.setup.shape) (frames_of n read.bytes) old)
+    number
+
+pub file_taken : (a b c : StoreSeen) (job : Job) (cpu : ℕ) (name : List ℕ)
+    (before after : Option SourceSeen) (rules : ArrivalRules) (old new : Dealing)
     (reading : FileReading)
-    → IsFetched a b name before
-    → HasReadFile rules before after (first_dealing cpu job.setup.plan) deal reading
+    → old.cpu ≡ cpu → old.shape ≡ job.setup.plan → IsFetched a b name before
+    → HasReadFile rules before after old new reading
     → IsClosed b c after → AgreesAt cpu (judge_rules_of job) (judge_rules_of_rules rules)
     → rules.room ≡ room_of job.setup.shape
-    → (bytes : List ℕ) × IsCpuRead a c job cpu name bytes
+    → (bytes : List ℕ) × IsFileTaken a c job cpu name bytes
     (record { cpu = cpu; frames = reading.frames; arrivals = reading.arrivals; end = reading.end })
-    deal
-cpu_read a b c job cpu name before after rules deal reading fetched read closed agrees room = (
-  read.bytes,
-  record {
-    file_is = file_read a b c name read.bytes before after reading.end fetched read.gave closed;
-    cpu_is = refl;
-    frames = read.frames;
-    arrivals = let sum = read.arrivals in omega (arith, sum);
-    deal_is = read.took (judge_rules_of job) agrees
-        ∙ ap (λ (r : ℕ). after_frames (rules_of job) r (frames_of cpu read.bytes)
-        (first_dealing cpu job.setup.plan)) room;
-  },
+    old new
+file_taken a b c job cpu name before after rules old new reading number shape fetched read closed
+    agrees room = (
+      read.bytes,
+      record {
+        file_is = file_read a b c name read.bytes before after reading.end fetched read.gave closed;
+        cpu_is = refl;
+        frames = read.frames ∙ ap (λ (n : ℕ). length (frames_of n read.bytes)) number;
+        arrivals = read.arrivals;
+        taken = taken_by job cpu before after rules old new reading read number shape agrees room;
+      },
+    )
+
+pub taken_same : (a b : StoreSeen) (job : Job) (cpu : ℕ) (name bytes : List ℕ) (file : ReadFile)
+    (old new : Dealing) → IsFileTaken a b job cpu name bytes file old new
+    → old.cpu ≡ cpu → old.shape ≡ job.setup.plan
+    → (new.cpu ≡ cpu) × (new.shape ≡ job.setup.plan)
+taken_same a b job cpu name bytes file old new is number shape =
+    let rules = rules_of job in let room = room_of job.setup.shape in
+    let frames = frames_of cpu bytes in (
+      ap (λ (d : Dealing). d.cpu) is.taken ∙ cpu_stays rules room frames old ∙ number,
+      ap (λ (d : Dealing). d.shape) is.taken ∙ shape_stays rules room frames old ∙ shape,
+    )
+
+-- ---- one more file of a CPU
+
+files_then : (a b c : StoreSeen) (job : Job) (cpu : ℕ) (names all : List (List ℕ))
+    (files : List ReadFile) (before mid after : Dealing) (name bytes : List ℕ) (file : ReadFile)
+    → AreFilesTaken a b job cpu names all files before mid
+    → IsFileTaken b c job cpu name bytes file mid after
+    → AreFilesTaken a c job cpu (names ++ name ∷ []) (all ++ bytes ∷ []) (files ++ file ∷ []) before after
+files_then a b c job cpu [] [] [] before mid after name bytes file are is = (
+  c,
+  after,
+  subst (λ (s : StoreSeen). IsFileTaken s c job cpu name bytes file before after) are.0
+      (subst (λ (d : Dealing). IsFileTaken b c job cpu name bytes file d after) are.1 is),
+  (refl, refl),
 )
+files_then a b c job cpu [] [] (f ∷ files) before mid after name bytes file are is = absurd are
+files_then a b c job cpu [] (x ∷ all) files before mid after name bytes file are is = absurd are
+files_then a b c job cpu (n ∷ names) [] files before mid after name bytes file are is = absurd are
+files_then a b c job cpu (n ∷ names) (x ∷ all) [] before mid after name bytes file are is = absurd are
+files_then a b c job cpu (n ∷ names) (x ∷ all) (f ∷ files) before mid after name bytes file are is = (
+  are.0,
+  are.1,
+  are.2,
+  files_then are.0 b c job cpu names all files are.1 mid after name bytes file are.3 is,
+)
+
+-- the further files of a CPU among some, and one more
+more_then : (cpu : ℕ) (more : List MoreFile) (file : MoreFile)
+    → more_of cpu (more ++ file ∷ []) ≡ more_of cpu more ++ more_of cpu (file ∷ [])
+more_then cpu [] file = refl
+more_then cpu (other ∷ more) file = by (other.cpu == cpu) (more_then cpu more file) where
+  by : (b : Bool) → more_of cpu (more ++ file ∷ []) ≡ more_of cpu more ++ more_of cpu (file ∷ [])
+      → (if b then other.file ∷ more_of cpu (more ++ file ∷ []) else more_of cpu (more ++ file ∷ []))
+      ≡ (if b then other.file ∷ more_of cpu more else more_of cpu more) ++ more_of cpu (file ∷ [])
+  by true rest = ap (λ (names : List (List ℕ)). other.file ∷ names) rest
+  by false rest = rest
+
+its_own : (name : List ℕ) (b : Bool) → b ≡ true → (if b then name ∷ [] else []) ≡ name ∷ []
+its_own name true is = refl
+its_own name false is = cc
+
+not_its_own : (name : List ℕ) (b : Bool) → b ≡ false → (if b then name ∷ [] else []) ≡ []
+not_its_own name true is = cc
+not_its_own name false is = refl
+
+-- what was read of a CPU so far: of the further files those that are among the first of all
+pub record AreFurtherRead (old new : StoreSeen) (job : Job) (cpu : ℕ) (more : List MoreFile)
+    (start files : List ReadFile) (before after : Dealing) : Type 0 where
+  pub all : List (List ℕ)
+  pub read : List ReadFile
+  pub files_are : files ≡ start ++ read
+  pub taken : AreFilesTaken old new job cpu (more_of cpu more) all read before after
+
+pub none_further : (a : StoreSeen) (job : Job) (cpu : ℕ) (start : List ReadFile) (deal : Dealing)
+    → AreFurtherRead a a job cpu [] start start deal deal
+none_further a job cpu start deal = record {
+  all = [];
+  read = [];
+  files_are = sym (append-nil start);
+  taken = (refl, refl);
+}
+
+-- a further file of the CPU
+pub one_further : (a b c : StoreSeen) (job : Job) (cpu : ℕ) (more : List MoreFile) (at : ℕ)
+    (item : MoreFile) (name : List ℕ) (start files others : List ReadFile) (before mid after : Dealing)
+    (file : ReadFile)
+    → item ≡ get_or more at item → at < length more → item.cpu ≡ cpu → name ≡ item.file
+    → others ≡ files ++ file ∷ []
+    → AreFurtherRead a b job cpu (take at more) start files before mid
+    → ((bytes : List ℕ) × IsFileTaken b c job cpu name bytes file mid after)
+    → AreFurtherRead a c job cpu (take (at + 1) more) start others before after
+one_further a b c job cpu more at item name start files others before mid after file here less own
+    named added are one = record {
+      all = are.all ++ one.0 ∷ [];
+      read = are.read ++ file ∷ [];
+      files_are = added ∙ ap (λ (fs : List ReadFile). fs ++ file ∷ []) are.files_are
+          ∙ append_assoc start are.read (file ∷ []);
+      taken = subst (λ (names : List (List ℕ)). AreFilesTaken a c job cpu names (are.all ++ one.0 ∷ [])
+          (are.read ++ file ∷ []) before after)
+          (sym (ap (more_of cpu) (one_more more at item here less) ∙ more_then cpu (take at more) item
+          ∙ ap (λ (names : List (List ℕ)). more_of cpu (take at more) ++ names)
+          (its_own item.file (item.cpu == cpu) (eq-eqb item.cpu cpu own))))
+          (files_then a b c job cpu (more_of cpu (take at more)) are.all are.read before mid after
+          item.file one.0 file are.taken
+          (subst (λ (n : List ℕ). IsFileTaken b c job cpu n one.0 file mid after) named one.1));
+    }
+
+-- a file of another CPU
+pub other_further : (a b : StoreSeen) (job : Job) (cpu : ℕ) (more : List MoreFile) (at : ℕ)
+    (item : MoreFile) (start files : List ReadFile) (before after : Dealing)
+    → item ≡ get_or more at item → at < length more → item.cpu ≢ cpu
+    → AreFurtherRead a b job cpu (take at more) start files before after
+    → AreFurtherRead a b job cpu (take (at + 1) more) start files before after
+other_further a b job cpu more at item start files before after here less own are = record {
+  all = are.all;
+  read = are.read;
+  files_are = are.files_are;
+  taken = subst (λ (names : List (List ℕ)). AreFilesTaken a b job cpu names are.all are.read before after)
+      (sym (ap (more_of cpu) (one_more more at item here less) ∙ more_then cpu (take at more) item
+      ∙ ap (λ (names : List (List ℕ)). more_of cpu (take at more) ++ names)
+      (not_its_own item.file (item.cpu == cpu) (ne_eqb item.cpu cpu own)) ∙ append-nil (more_of cpu (take at more))))
+      are.taken;
+}
+
+-- ---- a CPU
+
+take_all : {A : Type 0} (xs : List A) (count : ℕ) → length xs ≤ count → take count xs ≡ xs
+take_all [] zero less = refl
+take_all [] (suc count) less = refl
+take_all (x ∷ xs) zero less = absurd (omega (arith, less))
+take_all (x ∷ xs) (suc count) less = ap (λ ys. x ∷ ys) (take_all xs count (omega (arith, less)))
 
 -- the setup of a CPU, by either name
 same_setup : (cpus : List CpuSetup) (cpu : ℕ) (setup item : CpuSetup)
@@ -53,115 +208,31 @@ same_setup cpus cpu setup item is other less =
     is ∙ get_or_from_slice_get cpus cpu item setup
     (slice_get_read cpus (length cpus) cpu item refl less other)
 
-pub cpu_read_by : (a b c : StoreSeen) (job : Job) (cpu : ℕ) (setup item : CpuSetup)
-    (name : List ℕ) (before after : Option SourceSeen) (rules : ArrivalRules)
-    (start deal : Dealing) (reading : FileReading)
+-- its capture and its further files
+pub cpu_read : (a b c : StoreSeen) (job : Job) (more : List MoreFile) (cpu : ℕ)
+    (setup item : CpuSetup) (name : List ℕ) (start first files : List ReadFile)
+    (new before after : Dealing) (file : ReadFile) (count : ℕ)
     → setup ≡ get_or job.setup.cpus cpu setup → item ≡ get_or job.setup.cpus cpu item
-    → cpu < length job.setup.cpus → name ≡ item.file
-    → start ≡ first_dealing cpu job.setup.plan → IsFetched a b name before
-    → HasReadFile rules before after start deal reading → IsClosed b c after
-    → AgreesAt cpu (judge_rules_of job) (judge_rules_of_rules rules) → rules.room ≡ room_of job.setup.shape
-    → (bytes : List ℕ) × IsCpuRead a c job cpu setup.file bytes
-    (record { cpu = cpu; frames = reading.frames; arrivals = reading.arrivals; end = reading.end })
-    deal
-cpu_read_by a b c job cpu setup item name before after rules start deal reading is other less named
-    first fetched read closed agrees room =
-    let same = same_setup job.setup.cpus cpu setup item is other less in
-    cpu_read a b c job cpu setup.file before after rules deal reading
-    (subst (λ (n : List ℕ). IsFetched a b n before)
-    (named ∙ ap (λ (s : CpuSetup). s.file) (sym same)) fetched)
-    (subst (λ (d : Dealing). HasReadFile rules before after d deal reading) first read) closed agrees
-    room
-
--- as the CPU with a number that is the same
-cpu_as : (a b : StoreSeen) (job : Job) (cpu other : ℕ) (name bytes : List ℕ) (file : ReadFile)
-    (deal : Dealing) → cpu ≡ other → IsCpuRead a b job cpu name bytes file deal
-    → IsCpuRead a b job other name bytes file deal
-cpu_as a b job cpu other name bytes file deal same read =
-    subst (λ (n : ℕ). IsCpuRead a b job n name bytes file deal) same read
-
-cpus_then : (old mid new : StoreSeen) (job : Job) (cpu : ℕ) (setups : List CpuSetup)
-    (all : List (List ℕ)) (files : List ReadFile) (deals : List Dealing) (setup : CpuSetup)
-    (bytes : List ℕ) (file : ReadFile) (deal : Dealing)
-    → AreCpusRead old mid job cpu setups all files deals
-    → IsCpuRead mid new job (cpu + length setups) setup.file bytes file deal
-    → AreCpusRead old new job cpu (setups ++ setup ∷ []) (all ++ bytes ∷ []) (files ++ file ∷ [])
-    (deals ++ deal ∷ [])
-cpus_then old mid new job cpu [] [] [] [] setup bytes file deal are is = (
-  new,
-  subst (λ (s : StoreSeen). IsCpuRead s new job cpu setup.file bytes file deal) are
-      (cpu_as mid new job (cpu + 0) cpu setup.file bytes file deal (omega arith) is),
-  refl,
-)
-cpus_then old mid new job cpu [] [] [] (d ∷ deals) setup bytes file deal are is = absurd are
-cpus_then old mid new job cpu [] [] (f ∷ files) deals setup bytes file deal are is = absurd are
-cpus_then old mid new job cpu [] (b ∷ all) files deals setup bytes file deal are is = absurd are
-cpus_then old mid new job cpu (s ∷ setups) [] files deals setup bytes file deal are is = absurd are
-cpus_then old mid new job cpu (s ∷ setups) (b ∷ all) [] deals setup bytes file deal are is =
-    absurd are
-cpus_then old mid new job cpu (s ∷ setups) (b ∷ all) (f ∷ files) [] setup bytes file deal are is =
-    absurd are
-cpus_then old mid new job cpu (s ∷ setups) (b ∷ all) (f ∷ files) (d ∷ deals) setup bytes file deal
-    are is = (
-      are.0,
-      are.1,
-      cpus_then are.0 mid new job (cpu + 1) setups all files deals setup bytes file
-          deal are.2
-          (cpu_as mid new job (cpu + length (s ∷ setups)) (cpu + 1 + length setups) setup.file bytes file
-          deal (omega arith) is),
-    )
-
--- as many files as CPUs
-pub as_many_cpus : (old new : StoreSeen) (job : Job) (cpu : ℕ) (setups : List CpuSetup)
-    (all : List (List ℕ)) (files : List ReadFile) (deals : List Dealing)
-    → AreCpusRead old new job cpu setups all files deals → length files ≡ length setups
-as_many_cpus old new job cpu [] [] [] [] are = refl
-as_many_cpus old new job cpu [] [] [] (d ∷ deals) are = absurd are
-as_many_cpus old new job cpu [] [] (f ∷ files) deals are = absurd are
-as_many_cpus old new job cpu [] (b ∷ all) files deals are = absurd are
-as_many_cpus old new job cpu (s ∷ setups) [] files deals are = absurd are
-as_many_cpus old new job cpu (s ∷ setups) (b ∷ all) [] deals are = absurd are
-as_many_cpus old new job cpu (s ∷ setups) (b ∷ all) (f ∷ files) [] are = absurd are
-as_many_cpus old new job cpu (s ∷ setups) (b ∷ all) (f ∷ files) (d ∷ deals) are =
-    let rest = as_many_cpus are.0 new job (cpu + 1) setups all files deals are.2 in
-    omega (arith, rest)
-
--- one more, of those that the setup has
-pub one_cpu_more : (old mid new : StoreSeen) (job : Job) (at : ℕ) (setup : CpuSetup)
-    (all : List (List ℕ)) (files more : List ReadFile) (deals others : List Dealing)
-    (bytes : List ℕ) (file : ReadFile) (deal : Dealing)
-    → setup ≡ get_or job.setup.cpus at setup → at < length job.setup.cpus
-    → length (take at job.setup.cpus) ≡ at
-    → more ≡ files ++ file ∷ [] → others ≡ deals ++ deal ∷ []
-    → AreCpusRead old mid job 0 (take at job.setup.cpus) all files deals
-    → IsCpuRead mid new job at setup.file bytes file deal
-    → AreCpusRead old new job 0 (take (at + 1) job.setup.cpus) (all ++ bytes ∷ []) more others
-one_cpu_more old mid new job at setup all files more deals others bytes file deal here less short
-    filed dealt are is =
-    rw (one_more job.setup.cpus at setup here less, filed, dealt)
-    (cpus_then old mid new job 0 (take at job.setup.cpus) all files deals setup bytes file deal are
-    (cpu_as mid new job at (0 + length (take at job.setup.cpus)) setup.file bytes file deal
-    (omega (arith, short)) is))
-
--- the one at a place
-element_at : {A : Type 0} (xs : List A) (at : ℕ) → at < length xs → (x : A) × (x ≡ get_or xs at x)
-element_at [] at less = absurd (omega (arith, less))
-element_at (x ∷ xs) zero less = (x, refl)
-element_at (x ∷ xs) (suc at) less = element_at xs at (omega (arith, less))
-
-pub one_cpu_by : (old mid new : StoreSeen) (job : Job) (at : ℕ) (all : List (List ℕ))
-    (files more : List ReadFile) (deals others : List Dealing) (file : ReadFile) (deal : Dealing)
-    → at < length job.setup.cpus → more ≡ files ++ file ∷ [] → others ≡ deals ++ deal ∷ []
-    → AreCpusRead old mid job 0 (take at job.setup.cpus) all files deals
-    → ((setup : CpuSetup) → setup ≡ get_or job.setup.cpus at setup
-    → (bytes : List ℕ) × IsCpuRead mid new job at setup.file bytes file deal)
-    → (more_bytes : List (List ℕ))
-    × AreCpusRead old new job 0 (take (at + 1) job.setup.cpus) more_bytes more others
-one_cpu_by old mid new job at all files more deals others file deal less filed dealt are each =
-    let here = element_at job.setup.cpus at less in
-    let read = each here.0 here.1 in (
-      all ++ read.0 ∷ [],
-      one_cpu_more old mid new job at here.0 all files more deals others read.0
-          file deal here.1 less (length-take-le at job.setup.cpus (omega (arith, less))) filed dealt are
-          read.1,
+    → cpu < length job.setup.cpus → name ≡ item.file → new ≡ first_dealing cpu job.setup.plan
+    → first ≡ start ++ file ∷ []
+    → ((bytes : List ℕ) × IsFileTaken a b job cpu name bytes file new before)
+    → length more ≤ count → AreFurtherRead b c job cpu (take count more) first files before after
+    → (all : List (List ℕ)) × (read : List ReadFile) × (files ≡ start ++ read)
+    × IsCpuRead a c job more cpu setup.file all read after
+cpu_read a b c job more cpu setup item name start first files new before after file count is other less
+    named none added one least rest =
+    let same = same_setup job.setup.cpus cpu setup item is other less in (
+      one.0 ∷ rest.all,
+      file ∷ rest.read,
+      rest.files_are ∙ ap (λ (fs : List ReadFile). fs ++ rest.read) added
+          ∙ append_assoc start (file ∷ []) rest.read,
+      (
+        b,
+        before,
+        subst (λ (n : List ℕ). IsFileTaken a b job cpu n one.0 file (first_dealing cpu job.setup.plan) before)
+            (named ∙ ap (λ (s : CpuSetup). s.file) (sym same))
+            (subst (λ (d : Dealing). IsFileTaken a b job cpu name one.0 file d before) none one.1),
+        subst (λ (some : List MoreFile). AreFilesTaken b c job cpu (more_of cpu some) rest.all rest.read before after)
+            (take_all more count least) rest.taken,
+      ),
     )

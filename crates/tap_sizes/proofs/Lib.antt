@@ -1,9 +1,14 @@
 pub mod Greatest
 pub mod Members
 pub mod Answering
+pub mod ReadFrames
+pub mod MemberLists
+pub mod TriedNumbers
 pub mod Measured
 pub mod CpuChains
+pub mod CpuLists
 pub mod Clean
+pub mod ReaderLimits
 pub mod MeantTexts
 pub mod Searched
 pub mod Completed

@@ -1,6 +1,6 @@
 -- What is found, from where the texts were read.
-use Rattle.std.proofs.Common.{◌≡◌, ℕ, Bool, List, [], ◌∷◌, Option, None, Some, inl, inr, refl, sym, subst}
-use Rattle.std.specs.Prelude.{◌⊎◌, IfOk, OnErr, Result, Ok, Err}
+use Rattle.std.proofs.Common.{◌≡◌, ℕ, List, Option, None, Some, inl, inr, refl, sym, subst}
+use Rattle.std.specs.Prelude.{IfOk, Result, Ok, Err}
 use Rattle.frame_deals.specs.Dealings.{Dealing}
 use Rattle.frame_view.specs.declared.memory.Memory.{Memory}
 use Rattle.reader_pace.specs.declared.readers.PacedReader.{PacedReader}
@@ -10,15 +10,14 @@ use Rattle.setup_text.specs.declared.setups.Setup.{Setup}
 use Rattle.size_printing.specs.declared.size_reports.ReadFile.{ReadFile}
 use Rattle.tap_outside.proofs.Kept.{OnlyReads-none, OnlyReads-then}
 use Rattle.tap_outside.specs.Seen.{OnlyReads, StoreSeen}
-use Rattle.tap_reading.specs.Fronts.{CantRead, RanOut}
-use Rattle.tap_reading.specs.Readers.{ReadsAs, Refuses, StopsAtSetup, StopsAtText}
+use Rattle.tap_reading.specs.Readers.{ReadsAs, StopsAtSetup, StopsAtText}
 use Rattle.tap_reading.specs.declared.stops.LoadError.{LoadError}
 use Rattle.tap_reading.specs.declared.stops.LoadError.TheVariants as stops
 use Rattle.setup_text.specs.declared.commands.Command.TheVariants.{Replay}
 use Rattle.tap_running.proofs.Counted.{counts_later}
 use Rattle.tap_running.proofs.TextOrder.{read_none}
-use Rattle.tap_sizes.specs.Endings.{AreAccepted, IsCut, IsSizeSearched}
-use Rattle.tap_sizes.specs.Readings.{AreCpusRead}
+use Rattle.tap_sizes.specs.Endings.{IsSizeSearched}
+use Rattle.tap_sizes.specs.Readings.{AreAllRead}
 use Rattle.tap_sizes.specs.SizeFindings.{IsSizeFound}
 use Rattle.tap_sizes.specs.SizeTexts.{IsJobRead, IsSetupRead, IsSizeAsked, StopsAtFilter, StopsAtJob}
 use Rattle.tap_sizes.specs.SizeTexts.{StopsAtReader, reader_for}
@@ -31,7 +30,7 @@ use Rattle.tap_sizes.specs.declared.size_findings.SizeFinding.{SizeFinding}
 use Rattle.tap_sizes.specs.declared.size_findings.SizeFinding.TheVariants as finding
 use Rattle.tap_sizes.specs.inside.Measured.{IsMeasured}
 use Rattle.tap_sizes.specs.inside.Stopped.{finding_of_reader_stop, finding_of_stop}
-use Rattle.tap_sizes.proofs.Clean.{clean_asked, clean_job, clean_texts, clean_then, cpus_counted}
+use Rattle.tap_sizes.proofs.Clean.{clean_asked, clean_job, clean_texts, clean_then, all_counted}
 
 -- ---- the words
 
@@ -169,9 +168,9 @@ cut_later start mid new named job reader memory asked only =
     }
 
 measured_found : (start mid new : StoreSeen) (named : SizeNamed) (job : Job) (reader : PacedReader)
-    (bytes : List (List ℕ)) (files : List ReadFile) (deals : List Dealing) (found : SizeFinding)
+    (bytes : List (List (List ℕ))) (files : List ReadFile) (deals : List Dealing) (found : SizeFinding)
     → IsSizeAsked start mid named job reader → unanswered_by reader ≡ None
-    → AreCpusRead mid new job 0 job.setup.cpus bytes files deals
+    → AreAllRead mid new job reader.more bytes files deals
     → IsMeasured job reader bytes files found → IsSizeFound (Some named) start new found
 measured_found start mid new named job reader bytes files deals finding.NoNames asked none read h =
     absurd h
@@ -187,8 +186,8 @@ measured_found start mid new named job reader bytes files deals (finding.Unanswe
     read h = absurd h
 measured_found start mid new named job reader bytes files deals (finding.TooLong told) asked none
     read h =
-    let here : AreCpusRead mid new job 0 job.setup.cpus bytes told deals =
-    subst (λ (fs : List ReadFile). AreCpusRead mid new job 0 job.setup.cpus bytes fs deals)
+    let here : AreAllRead mid new job reader.more bytes told deals =
+    subst (λ (fs : List ReadFile). AreAllRead mid new job reader.more bytes fs deals)
     (sym h.0) read in (
       record {
         job = job;
@@ -204,12 +203,12 @@ measured_found start mid new named job reader bytes files deals (finding.TooLong
         long = h.1;
       },
       counts_later _ start mid new (clean_asked start mid named job reader asked).unfailed
-          (cpus_counted mid new job 0 job.setup.cpus bytes told deals here),
+          (all_counted mid new job reader.more bytes told deals here),
     )
 measured_found start mid new named job reader bytes files deals (finding.Sized kind unit report)
     asked none read h =
-    let here : AreCpusRead mid new job 0 job.setup.cpus bytes report.files deals =
-    subst (λ (fs : List ReadFile). AreCpusRead mid new job 0 job.setup.cpus bytes fs deals)
+    let here : AreAllRead mid new job reader.more bytes report.files deals =
+    subst (λ (fs : List ReadFile). AreAllRead mid new job reader.more bytes fs deals)
     (sym h.files_are) read in (
       record {
         job = job;
@@ -227,14 +226,14 @@ measured_found start mid new named job reader bytes files deals (finding.Sized k
         answers = h.answers;
       },
       counts_later _ start mid new (clean_asked start mid named job reader asked).unfailed
-          (cpus_counted mid new job 0 job.setup.cpus bytes report.files deals here),
+          (all_counted mid new job reader.more bytes report.files deals here),
     )
 
 pub measured : (start mid new : StoreSeen) (named : SizeNamed) (job : Job) (reader : PacedReader)
-    (bytes : List (List ℕ)) (files : List ReadFile) (deals : List Dealing)
+    (bytes : List (List (List ℕ))) (files : List ReadFile) (deals : List Dealing)
     (answer : Result SizeFinding Memory)
     → IsSizeAsked start mid named job reader → unanswered_by reader ≡ None
-    → OnlyReads mid new → AreCpusRead mid new job 0 job.setup.cpus bytes files deals
+    → OnlyReads mid new → AreAllRead mid new job reader.more bytes files deals
     → IfOk answer (IsMeasured job reader bytes files)
     → IsSizeSearched (Some named) start new answer
 measured start mid new named job reader bytes files deals (Ok found) asked none only read h =

@@ -2,9 +2,10 @@
 use Rattle.std.specs.Prelude.{◌≡◌, ℕ, ◌*◌, ◌<◌, true, false, List, [], length, slice_get, None}
 use Rattle.std.specs.Prelude.{Some}
 use Rattle.fanout_group.specs.Plans.{rolls_over}
+use Rattle.deal_rules.specs.Files.{captures_by, times_by}
 use Rattle.frame_deals.specs.Dealings.{Dealing}
 use Rattle.pace_laws.specs.LeastRings.{AreFewestDrops, AreMostDrops, IsLeastOfGroup, IsLeastRing}
-use Rattle.pace_laws.specs.JobSizings.{sizing_of}
+use Rattle.pace_laws.specs.JobSizings.{sizing_over}
 use Rattle.pace_laws.specs.Sizings.{Sizing}
 use Rattle.reader_pace.specs.Timelines.{end_of}
 use Rattle.reader_pace.specs.declared.readers.PacedReader.{PacedReader}
@@ -17,29 +18,36 @@ use Rattle.setup_text.specs.declared.jobs.Job.{Job}
 use Rattle.size_printing.specs.declared.size_reports.ReadFile.{ReadFile}
 use Rattle.size_printing.specs.declared.size_reports.SizeReport.{SizeReport}
 use Rattle.tap_outside.specs.Seen.{StoreSeen}
-use Rattle.tap_sizes.specs.Readings.{AreCpusRead, times_in}
+use Rattle.tap_sizes.specs.Readings.{AreAllRead}
 use Rattle.tap_sizes.specs.SizeTexts.{IsSizeAsked}
 use Rattle.tap_sizes.specs.SizeWords.{SizeNamed}
 use Rattle.tap_sizes.specs.Tried.{tries_by, unanswered_by}
-use Rattle.tp_layout.specs.Requests.{time_out_of}
+use Rattle.tp_layout.specs.Requests.{room_of, time_out_of}
 
--- the texts were read and are accepted, and then the captures were read, which gave these bytes
+-- the sizing of a job's rings of blocks over files of its CPUs that gave these bytes: the frames of
+-- a CPU are those of its files, one after another, with one reassembly and rising indices over all
+abbrev pub sizing_by : Job → PacedReader → List (List (List ℕ)) → Sizing
+sizing_by job reader all =
+    sizing_over (room_of job.setup.shape) job reader (captures_by 0 all)
+
+-- the texts were read and are accepted, and then the files of each CPU were read, which gave these
+-- bytes
 pub record AreCapturesRead (old new : StoreSeen) (named : SizeNamed) (job : Job)
-    (reader : PacedReader) (bytes : List (List ℕ)) (files : List ReadFile) : Type 0 where
+    (reader : PacedReader) (bytes : List (List (List ℕ))) (files : List ReadFile) : Type 0 where
   pub between : StoreSeen
   pub asked : IsSizeAsked old between named job reader
   pub answered : unanswered_by reader ≡ None
   pub deals : List Dealing
-  pub read_is : AreCpusRead between new job 0 job.setup.cpus bytes files deals
+  pub read_is : AreAllRead between new job reader.more bytes files deals
 
 -- the frames last longer than the clock of a schedule goes
 pub record IsTooLong (old new : StoreSeen) (named : SizeNamed) (files : List ReadFile)
     : Type 0 where
   pub job : Job
   pub reader : PacedReader
-  pub bytes : List (List ℕ)
+  pub bytes : List (List (List ℕ))
   pub read_is : AreCapturesRead old new named job reader bytes files
-  pub long : 4294967295 * 1000000 < end_of (times_in bytes)
+  pub long : 4294967295 * 1000000 < end_of (times_by bytes)
 
 -- what is tried of the reader
 abbrev pub tries_for : Job → PacedReader → Tries
@@ -77,8 +85,8 @@ pub record IsSized (old new : StoreSeen) (named : SizeNamed) (kind : RingKind) (
     (report : SizeReport) : Type 0 where
   pub job : Job
   pub reader : PacedReader
-  pub bytes : List (List ℕ)
+  pub bytes : List (List (List ℕ))
   pub read_is : AreCapturesRead old new named job reader bytes report.files
   pub kind_is : kind ≡ Blocks
   pub unit_is : unit ≡ job.setup.shape.block_size
-  pub answers : IsAnswered job reader (sizing_of job reader bytes) report
+  pub answers : IsAnswered job reader (sizing_by job reader bytes) report

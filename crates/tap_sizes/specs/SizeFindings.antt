@@ -25,7 +25,7 @@ use Rattle.tap_sizes.specs.Tried.{unanswered_by}
 use Rattle.tap_sizes.specs.declared.outcomes.SizeStatus.{SizeStatus}
 use Rattle.tap_sizes.specs.declared.outcomes.SizeStatus.TheVariants as status
 use Rattle.tap_sizes.specs.declared.outcomes.Unanswered.{Unanswered}
-use Rattle.tap_sizes.specs.declared.outcomes.Unanswered.TheVariants.{More, Poll, Slots}
+use Rattle.tap_sizes.specs.declared.outcomes.Unanswered.TheVariants.{Poll, Slots}
 use Rattle.tap_sizes.specs.declared.size_findings.SizeFinding.{SizeFinding}
 use Rattle.tap_sizes.specs.declared.size_findings.SizeFinding.TheVariants as finding
 
@@ -91,7 +91,6 @@ report_in found = None
 unfoldable pub unanswered_line : Unanswered → List ℕ
 unanswered_line Poll = codes "reader: poll has no answer yet\n"
 unanswered_line Slots = codes "reader: slots has no answer yet\n"
-unanswered_line More = codes "reader: more has no answer yet\n"
 
 -- those of captures whose frames last too long
 abbrev pub too_long_lines : List ReadFile → List ℕ

@@ -21,10 +21,10 @@ use tap_running::{print_lines, print_memory};
 /// Answers which rings of a setup are never full, over a store and a sink.
 ///
 /// The words are the names of a setup and of a reader's text. The setup, the filter that it names,
-/// the reader's text and the captures of the setup are read one after another; then the smallest
-/// ring of each member and of the group is printed that never finds a block still the reader's,
-/// whatever phase of the timer and whatever beginning of the reader is tried. docs/reference.md
-/// lists texts and lines, which are this project's own choice.
+/// the reader's text and the files of each CPU, its capture and then its further ones, are read one
+/// after another; then the smallest ring of each member and of the group is printed that never
+/// finds a block still the reader's, whatever phase of the timer and whatever beginning of the
+/// reader is tried. docs/reference.md lists texts and lines, which are this project's own choice.
 pub fn run_size<S: Store, O: Sink>(
     alloc: Global,
     words: &[Word],
@@ -34,7 +34,7 @@ pub fn run_size<S: Store, O: Sink>(
     // Each file that is read is meant for reading.
     requires { AreMeantToSize (size_words words.now) (S.seen store.old) }
 
-    // A report has the answers for what the captures gave.
+    // A report has the answers for what the files of the CPUs gave.
     ensures headline { IsWorth (size_words words.now) (S.seen store.old) (S.seen store.new)
         result.report }
 
@@ -48,8 +48,7 @@ pub fn run_size<S: Store, O: Sink>(
     ensures gave_up { result.status ≡ SizeStatus.Memory → GivesUp (size_words words.now) result
         (S.seen store.old) (S.seen store.new) (O.seen out.old) (O.seen out.new) }
 
-    // If the store holds sound texts and captures and no count of faults rose, the status is 0, or
-    // 7.
+    // If the store holds sound texts and files and no count of faults rose, the status is 0, or 7.
     ensures complete { IsComplete (size_words words.now)
         (S.seen store.old) (S.seen store.new) (O.seen out.old) (O.seen out.new) result.status }
 

@@ -1,21 +1,23 @@
-//! The captures of the CPUs, read one after another.
-ghost use Rattle.std.specs.Prelude.{◌≡◌, ℕ, ◌<◌, ◌≤◌, List, [], ◌∷◌, ◌++◌, All, IfOk, IsTrue, OnOk};
+//! The files of the CPUs, read one after another.
+ghost use Rattle.std.specs.Prelude.{◌≡◌, ℕ, ◌<◌, ◌≤◌, List, ◌∷◌, ◌++◌, All, IfOk, IsTrue};
 ghost use Rattle.std.specs.Prelude.{get_or, length};
 ghost use Rattle.setup_text.specs.declared.cpu_setups.CpuSetup.{CpuSetup};
+ghost use Rattle.size_printing.specs.declared.size_reports.ReadFile.{ReadFile};
 ghost use Rattle.tap_outside.specs.Seen.{OnlyReads};
-ghost use Rattle.tap_sizes.specs.Readings.{AreCpusRead, IsCpuRead};
+ghost use Rattle.tap_sizes.specs.Readings.{AreAllRead, IsCpuRead, IsFileTaken};
 
 use capture_reading::Buffer;
 use cpu_feed::rules_at;
 use frame_deals::CpuDeal;
 use frame_view::Memory;
+use reader_pace::MoreFile;
 use setup_text::Job;
 use size_printing::{ReadFile, ReadFiles};
 use std::alloc::Global;
 use tap_outside::Store;
 use tap_running::{close_file, fetch_file};
 
-/// What was read of the CPUs so far.
+/// What was read of the CPUs.
 #[derive(Drop)]
 pub(crate) struct CpuReads {
     /// The files.
@@ -24,88 +26,110 @@ pub(crate) struct CpuReads {
     pub deals: Vec<CpuDeal>,
 }
 
-/// What was read of a CPU.
-#[derive(Drop)]
-struct CpuRead {
-    /// The file.
-    file: ReadFile,
-    /// What comes of its frames.
-    deal: CpuDeal,
-}
-
-/// Reads the capture of each CPU of a job, one after another: each is opened, read to its end and
-/// closed. One that can't be fetched ends with a fault.
+/// Reads the files of each CPU of a job, one CPU after another: its capture and then its further
+/// files, in the order of their lines.
 pub(crate) fn read_cpus<S: Store>(
     alloc: Global,
     job: &Job,
+    more: &[MoreFile],
     store: &mut S,
 ) -> Result<CpuReads, Memory>
     requires few { length job.now.setup.cpus ≤ 8 }
     requires captures { All (λ cpu. IsTrue ((S.seen store.old).to_read cpu.file))
         job.now.setup.cpus }
-    ensures read { IfOk result (λ reads. (all : List (List ℕ))
-        × AreCpusRead (S.seen store.old) (S.seen store.new)
-        job.now 0 job.now.setup.cpus all reads.files reads.deals.items) }
+    requires more { All (λ file. IsTrue ((S.seen store.old).to_read file.file)) more.now }
+    ensures read { IfOk result (λ reads. (all : List (List (List ℕ)))
+        × AreAllRead (S.seen store.old) (S.seen store.new)
+        job.now more.now all reads.files reads.deals.items) }
     ensures store { OnlyReads (S.seen store.old) (S.seen store.new) }
 {
     let mut buffer = Buffer::new(alloc)?;
-    let mut reads = CpuReads {
-        files: ReadFiles::new(alloc),
-        deals: Vec::with_capacity(alloc, job.setup.cpus.len())?,
-    };
+    let mut files = ReadFiles::new(alloc);
+    let mut deals = Vec::with_capacity(alloc, job.setup.cpus.len())?;
     let mut cpu = 0;
     while cpu < job.setup.cpus.len() {
-        reads.push(read_cpu(alloc, job, cpu, &mut buffer, store)?)?;
+        let deal = read_cpu(alloc, job, more, cpu, &mut buffer, store, &mut files)?;
+        deals.push(deal)?;
         cpu += 1;
     }
-    Ok(reads)
+    Ok(CpuReads { files, deals })
 }
 
-impl CpuReads {
-    /// Adds what was read of the next CPU.
-    fn push(&mut self, read: CpuRead) -> Result<(), Memory>
-        ensures files { OnOk result (self.new.files ≡ self.old.files ++ read.file ∷ []) }
-        ensures deals { OnOk result
-            (self.new.deals.items ≡ self.old.deals.items ++ read.deal ∷ []) }
-    {
-        self.files.push(read.file)?;
-        self.deals.push(read.deal)?;
-        Ok(())
-    }
-}
-
-/// Reads the capture of a CPU.
+/// Reads the capture of a CPU and then its further files, and adds what was read of each.
 fn read_cpu<S: Store>(
     alloc: Global,
     job: &Job,
+    more: &[MoreFile],
     cpu: usize,
     buffer: &mut Buffer,
     store: &mut S,
-) -> Result<CpuRead, Memory>
+    files: &mut ReadFiles,
+) -> Result<CpuDeal, Memory>
     requires cpu { cpu < length job.now.setup.cpus }
     requires few { length job.now.setup.cpus ≤ 8 }
     requires captures { All (λ cpu. IsTrue ((S.seen store.old).to_read cpu.file))
         job.now.setup.cpus }
-    ensures read { IfOk result (λ read. (setup : CpuSetup)
+    requires more { All (λ file. IsTrue ((S.seen store.old).to_read file.file)) more.now }
+    ensures read { IfOk result (λ deal. (setup : CpuSetup)
         → setup ≡ get_or job.now.setup.cpus cpu setup
-        → (bytes : List ℕ) × IsCpuRead (S.seen store.old) (S.seen store.new) job.now cpu setup.file
-        bytes read.file read.deal) }
+        → (all : List (List ℕ)) × (read : List ReadFile) × (files.new ≡ files.old ++ read)
+        × IsCpuRead (S.seen store.old) (S.seen store.new) job.now more.now cpu setup.file
+        all read deal) }
     ensures store { OnlyReads (S.seen store.old) (S.seen store.new) }
 {
     let setup = &job.setup.cpus.as_slice()[cpu];
-    let mut source = fetch_file(store, setup.file.bytes())?;
-    let rules = rules_at(job, cpu);
     let mut deal = CpuDeal::new(alloc, cpu as u32, job.setup.plan);
+    let capture = read_file(
+        alloc,
+        job,
+        cpu,
+        setup.file.bytes(),
+        &mut deal,
+        buffer,
+        store,
+    )?;
+    files.push(capture)?;
+    for file in more {
+        if file.cpu as usize == cpu {
+            let name = file.file.bytes();
+            let further = read_file(alloc, job, cpu, name, &mut deal, buffer, store)?;
+            files.push(further)?;
+        }
+    }
+    Ok(deal)
+}
+
+/// Reads a file of a CPU after those before it: it is opened, read to its end and closed. One that
+/// can't be fetched ends with a fault.
+fn read_file<S: Store>(
+    alloc: Global,
+    job: &Job,
+    cpu: usize,
+    name: &[u8],
+    deal: &mut CpuDeal,
+    buffer: &mut Buffer,
+    store: &mut S,
+) -> Result<ReadFile, Memory>
+    requires cpu { deal.old.cpu ≡ cpu }
+    requires shape { deal.old.shape ≡ job.now.setup.plan }
+    requires few { cpu < 8 }
+    requires name { IsTrue ((S.seen store.old).to_read name.now) }
+    ensures read { IfOk result (λ file. (bytes : List ℕ)
+        × IsFileTaken (S.seen store.old) (S.seen store.new) job.now cpu name.now bytes file
+        deal.old deal.new) }
+    ensures same { IfOk result (λ file. (deal.new.cpu ≡ cpu)
+        × (deal.new.shape ≡ job.now.setup.plan)) }
+    ensures store { OnlyReads (S.seen store.old) (S.seen store.new) }
+{
+    let mut source = fetch_file(store, name)?;
+    let rules = rules_at(job, cpu);
     let reading = deal.read_file(alloc, buffer, &rules, &mut source);
     close_file(store, source);
     let reading = reading?;
-    Ok(CpuRead {
-        file: ReadFile {
-            cpu: cpu as u32,
-            frames: reading.frames,
-            arrivals: reading.arrivals,
-            end: reading.end,
-        },
-        deal,
+    Ok(ReadFile {
+        cpu: cpu as u32,
+        frames: reading.frames,
+        arrivals: reading.arrivals,
+        end: reading.end,
     })
 }

@@ -5,6 +5,7 @@ mod answers;
 mod asked_sizes;
 mod calls;
 mod cpu_reads;
+mod laws;
 mod outcomes;
 mod reader_stops;
 mod reader_tries;
@@ -13,4 +14,5 @@ mod size_findings;
 mod size_texts;
 
 pub use calls::run_size;
+pub use laws::one_file_each_is_a_run;
 pub use outcomes::{SizeOutcome, SizeStatus, Unanswered};

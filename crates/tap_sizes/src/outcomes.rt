@@ -14,8 +14,6 @@ pub enum Unanswered {
     Poll,
     /// The ring is one of slots.
     Slots,
-    /// A capture goes on in a further file.
-    More,
 }
 
 /// How the call ended.
@@ -35,7 +33,7 @@ pub enum SizeStatus {
     Unanswered(Unanswered),
     /// 3: the frames last longer than the clock of a schedule goes.
     TooLong,
-    /// 4: a capture is damaged, or cut; the lowest such CPU.
+    /// 4: a file of a CPU is damaged, or cut; the first such file that was read.
     Damaged { cpu: u32, fault: CaptureError },
     /// 5: a file couldn't be read.
     ReadFault,

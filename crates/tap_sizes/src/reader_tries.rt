@@ -28,10 +28,8 @@ pub(crate) fn unanswered(reader: &PacedReader) -> Option<Unanswered>
 {
     if reader.slots {
         Some(Unanswered::Slots)
-    } else if reader.more.is_empty() {
-        unanswered_pace(reader.pace)
     } else {
-        Some(Unanswered::More)
+        unanswered_pace(reader.pace)
     }
 }
 

@@ -5,8 +5,8 @@ ghost use Rattle.setup_text.specs.Sound.{IsSetup};
 ghost use Rattle.std.specs.Prelude.{length};
 ghost use Rattle.tap_outside.specs.Seen.{StoreSeen};
 ghost use Rattle.tap_sizes.specs.Endings.{IsSizeSearched};
-ghost use Rattle.tap_sizes.specs.SizeNames.{AreMeantToSize};
-ghost use Rattle.tap_sizes.specs.Readings.{AreCpusRead};
+ghost use Rattle.tap_sizes.specs.SizeNames.{AreMeantToSize, AreMoreMeant};
+ghost use Rattle.tap_sizes.specs.Readings.{AreAllRead};
 ghost use Rattle.tap_sizes.specs.SizeTexts.{IsJobRead, IsSizeAsked};
 ghost use Rattle.tap_sizes.specs.SizeWords.{SizeNamed, size_named, size_words};
 ghost use Rattle.tap_sizes.specs.Tried.{unanswered_by};
@@ -21,7 +21,7 @@ use crate::reader_stops::ReaderStop;
 use crate::reader_tries::unanswered;
 use crate::size_findings::SizeFinding;
 use crate::size_texts::{load_reader, load_size_job};
-use frame_deals::{all_files_are_what_arrives, deal, one_file_is_the_capture_of_a_run};
+use frame_deals::{all_files_are_what_arrives, deal};
 use frame_view::Memory;
 use pace_laws::{
     a_job_has_a_sizing, the_drops_of_courses_are_those_of_replays,
@@ -91,6 +91,7 @@ fn search_job<S: Store>(
     requires reader { IsTrue ((S.seen store.old).to_read reader.now) }
     requires captures { All (λ cpu. IsTrue ((S.seen store.old).to_read cpu.file))
         job.now.setup.cpus }
+    requires more { AreMoreMeant (S.seen store.old) reader.now job.now.setup }
     ensures { (start : StoreSeen) (named : SizeNamed) → named.reader ≡ reader.now
         → IsJobRead start (S.seen store.old) named job.now
         → IsSizeSearched (Some named) start (S.seen store.new) result }
@@ -124,6 +125,7 @@ fn search_captures<S: Store>(
         reader.now }
     requires captures { All (λ cpu. IsTrue ((S.seen store.old).to_read cpu.file))
         job.now.setup.cpus }
+    requires more { All (λ file. IsTrue ((S.seen store.old).to_read file.file)) reader.now.more }
     ensures { (start : StoreSeen) (named : SizeNamed)
         → IsSizeAsked start (S.seen store.old) named job.now reader.now
         → IsSizeSearched (Some named) start (S.seen store.new) result }
@@ -131,7 +133,7 @@ fn search_captures<S: Store>(
     if let Some(why) = unanswered(reader) {
         return Ok(SizeFinding::Unanswered(why));
     }
-    let reads = read_cpus(alloc, job, store)?;
+    let reads = read_cpus(alloc, job, reader.more.as_slice(), store)?;
     measure(alloc, job, reader, reads)
 }
 
@@ -146,13 +148,12 @@ fn measure(
     requires reader { IsReader (length job.now.setup.cpus) (time_out_of job.now.setup.shape)
         reader.now }
     requires answered { unanswered_by reader.now ≡ None }
-    requires read { AreSomeRead job.now reads.files reads.deals.items }
-    ensures { (old new : StoreSeen) (bytes : List (List ℕ))
-        → AreCpusRead old new job.now 0 job.now.setup.cpus bytes reads.files reads.deals.items
+    requires read { AreSomeRead job.now reader.now.more reads.files reads.deals.items }
+    ensures { (old new : StoreSeen) (bytes : List (List (List ℕ)))
+        → AreAllRead old new job.now reader.now.more bytes reads.files reads.deals.items
         → IfOk result (IsMeasured job.now reader.now bytes reads.files) }
 {
     all_files_are_what_arrives();
-    one_file_is_the_capture_of_a_run();
     a_job_has_a_sizing();
     the_greatest_of_the_passes_is_the_least_ring();
     the_greatest_of_all_passes_is_the_least_ring_of_the_group();

@@ -91,7 +91,6 @@ fn unanswered_line(alloc: Global, why: Unanswered) -> Result<String, Memory>
     let line = match why {
         Unanswered::Poll => String::from_str(alloc, "reader: poll has no answer yet\n")?,
         Unanswered::Slots => String::from_str(alloc, "reader: slots has no answer yet\n")?,
-        Unanswered::More => String::from_str(alloc, "reader: more has no answer yet\n")?,
     };
     Ok(line)
 }

@@ -30,7 +30,7 @@ pub(crate) fn load_size_job<S: Store>(
     ensures job { IfOk result (IsJobRead (S.seen store.old) (S.seen store.new)
         (size_named asked.entry.setup.now asked.entry.reader.now)) }
     ensures sound { IfOk result (λ job. IsSetup job.setup) }
-    ensures meant { IfOk result (λ job. IsRestMeant (S.seen store.new).to_read
+    ensures meant { IfOk result (λ job. IsRestMeant (S.seen store.new)
         (size_named asked.entry.setup.now asked.entry.reader.now) job.setup) }
     ensures stop { IfErr result (StopsAtJob (S.seen store.old) (S.seen store.new)
         (size_named asked.entry.setup.now asked.entry.reader.now)) }

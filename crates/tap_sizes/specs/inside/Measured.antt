@@ -7,34 +7,36 @@ use Rattle.run_reports.specs.declared.ring_kind.RingKind.TheVariants.{Blocks}
 use Rattle.setup_text.specs.declared.jobs.Job.{Job}
 use Rattle.size_printing.specs.declared.size_reports.ReadFile.{ReadFile}
 use Rattle.size_printing.specs.declared.size_reports.SizeReport.{SizeReport}
-use Rattle.tap_sizes.specs.Answers.{IsAnswered}
-use Rattle.pace_laws.specs.JobSizings.{sizing_of}
+use Rattle.tap_sizes.specs.Answers.{IsAnswered, sizing_by}
+use Rattle.deal_rules.specs.Files.{times_by}
+use Rattle.reader_pace.specs.declared.paces.MoreFile.{MoreFile}
 use Rattle.frame_deals.specs.Dealings.{Dealing}
 use Rattle.tap_outside.specs.Seen.{StoreSeen}
-use Rattle.tap_sizes.specs.Readings.{AreCpusRead, times_in}
+use Rattle.tap_sizes.specs.Readings.{AreAllRead}
 use Rattle.tap_sizes.specs.declared.size_findings.SizeFinding.{SizeFinding}
 use Rattle.tap_sizes.specs.declared.size_findings.SizeFinding.TheVariants as finding
 
 -- the answers for rings of blocks
-pub record IsReportFor (job : Job) (reader : PacedReader) (bytes : List (List ℕ))
+pub record IsReportFor (job : Job) (reader : PacedReader) (bytes : List (List (List ℕ)))
     (files : List ReadFile) (kind : RingKind) (unit : ℕ) (report : SizeReport) : Type 0 where
   pub files_are : report.files ≡ files
   pub kind_is : kind ≡ Blocks
   pub unit_is : unit ≡ job.setup.shape.block_size
-  pub answers : IsAnswered job reader (sizing_of job reader bytes) report
+  pub answers : IsAnswered job reader (sizing_by job reader bytes) report
 
--- those of captures that gave these bytes, or that their frames last too long
+-- those of files that gave these bytes, or that their frames last too long
 abbrev pub IsMeasured :
-    Job → PacedReader → List (List ℕ) → List ReadFile → SizeFinding → Type 0
+    Job → PacedReader → List (List (List ℕ)) → List ReadFile → SizeFinding → Type 0
 IsMeasured job reader bytes files (finding.TooLong told) =
-    (told ≡ files) × (4294967295 * 1000000 < end_of (times_in bytes))
+    (told ≡ files) × (4294967295 * 1000000 < end_of (times_by bytes))
 IsMeasured job reader bytes files (finding.Sized kind unit report) =
     IsReportFor job reader bytes files kind unit report
 IsMeasured job reader bytes files found = ⊥
 
--- these files were read of some captures
-pub record AreSomeRead (job : Job) (files : List ReadFile) (deals : List Dealing) : Type 0 where
+-- these files were read of a store
+pub record AreSomeRead (job : Job) (more : List MoreFile) (files : List ReadFile)
+    (deals : List Dealing) : Type 0 where
   pub old : StoreSeen
   pub new : StoreSeen
-  pub bytes : List (List ℕ)
-  pub read_is : AreCpusRead old new job 0 job.setup.cpus bytes files deals
+  pub bytes : List (List (List ℕ))
+  pub read_is : AreAllRead old new job more bytes files deals

@@ -4,7 +4,7 @@ use Rattle.ring_sizes.specs.declared.paces.StallTime.{StallTime}
 use Rattle.ring_sizes.specs.declared.tries.Reached.{Reached}
 use Rattle.tap_sizes.specs.inside.Passes.{AreDropRanges, AreFirstMost, Clocks, greatest_ring}
 use Rattle.tap_sizes.proofs.Answering.{answered_by, not_both_ways}
-use Rattle.tap_sizes.proofs.Measured.{rings_count}
+use Rattle.tap_sizes.proofs.MemberLists.{rings_count}
 use Rattle.tp_layout.specs.Requests.{room_of}
 use Rattle.tap_sizes.proofs.answers.answers_of.Goals as goal
 

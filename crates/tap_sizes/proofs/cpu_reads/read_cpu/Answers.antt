@@ -1,16 +1,56 @@
-use Rattle.std.proofs.Common.{List, ap, get_or, ◌∙◌}
+use Rattle.std.proofs.Common.{◌≡◌, ◌≢◌, ◌<◌, ◌≤◌, List, ap, get_or, length, rules, ◌∙◌}
 use Rattle.setup_text.specs.declared.cpu_setups.CpuSetup.{CpuSetup}
-use Rattle.tap_sizes.proofs.CpuChains.{cpu_read_by}
+use Rattle.tap_outside.proofs.Kept.{OnlyReads-none, OnlyReads-then}
+use Rattle.tap_sizes.proofs.CpuChains.{cpu_read, none_further, one_further, other_further}
+use Rattle.tap_sizes.proofs.cpu_reads.read_cpu.Goals.{else-file-cpu, then-file-cpu+in_ok-further+in_ok-push-2}
 use Rattle.tap_sizes.proofs.cpu_reads.read_cpu.Goals as goal
+
+pub loop-file-init : goal.loop-file-init
+loop-file-init g c =
+    let same = c.in_ok-capture.ensures.same in
+    (OnlyReads-none _, same.0, same.1, none_further _ _ _ _ _)
+
+pub loop-file-preserved : goal.loop-file-preserved
+loop-file-preserved g c =
+    let inv = c.loop-file.invariant in
+    let less : c.loop-file.file-index < length c.args.more.now = search rules in
+    let item = c.file-item.result in
+    let first = g.S.Store.seen c.read_file.new.store in
+    let before = g.S.Store.seen c.loop-file.store in
+    elim c.if-file-cpu.branch [
+      | then-file-cpu+in_ok-further+in_ok-push-2 w ↦
+          let own : item.cpu ≡ c.args.cpu = w.if-file-cpu.true in
+          rw (w.store-is, w.files-is, w.deal-is) (
+            OnlyReads-then _ _ _ inv.0 w.in_ok-further.ensures.store,
+            w.in_ok-further.ensures.same.0,
+            w.in_ok-further.ensures.same.1,
+            one_further first before _ c.args.job.now c.args.cpu c.args.more.now
+                c.loop-file.file-index item w.bytes-name.result.now c.push.new.self c.loop-file.files _
+                c.read_file.new.deal c.loop-file.deal _ w.in_ok-further.further c.file-item.is less own
+                w.bytes-name.ensures w.in_ok-push-2.ensures.ok inv.3 w.in_ok-further.ensures.read,
+          )
+      | else-file-cpu w ↦
+          let other : item.cpu ≢ c.args.cpu = w.if-file-cpu.false in
+          rw (w.store-is, w.files-is, w.deal-is) (
+            inv.0,
+            inv.1,
+            inv.2,
+            other_further first before c.args.job.now c.args.cpu c.args.more.now
+                c.loop-file.file-index item c.push.new.self c.loop-file.files c.read_file.new.deal
+                c.loop-file.deal c.file-item.is less other inv.3,
+          )
+    ]
 
 pub returns-clause-read : goal.returns-clause-read
 returns-clause-read g c = λ setup is.
+    let inv = c.loop-file.invariant in
     let item = c.index-as_slice-cpu.result in
     let other = c.index-as_slice-cpu.is
     ∙ ap (λ (cpus : List CpuSetup). get_or cpus c.args.cpu item) c.as_slice.ensures in
-    cpu_read_by (g.S.Store.seen c.args.store.now) (g.S.Store.seen c.fetch_file.new.store)
-    (g.S.Store.seen c.close_file.new.store) c.args.job.now c.args.cpu setup item c.bytes.result.now
-    _ _ c.rules_at-rules.result c.new-deal.result c.read_file-reading.new.self
-    c.in_ok-reading.reading is other c.requires.cpu c.bytes.ensures c.new-deal.ensures
-    c.in_ok-source.ensures.fetched c.in_ok-reading.ensures.read c.close_file.ensures.closed
-    c.rules_at-rules.ensures.agrees c.rules_at-rules.ensures.room
+    let least : length c.args.more.now ≤ c.loop-file.file-index = search rules in
+    cpu_read (g.S.Store.seen c.args.store.now) (g.S.Store.seen c.read_file.new.store)
+    (g.S.Store.seen c.loop-file.store) c.args.job.now c.args.more.now c.args.cpu setup item
+    c.bytes.result.now c.args.files.now c.push.new.self c.loop-file.files c.new-deal.result
+    c.read_file.new.deal c.loop-file.deal c.in_ok-capture.capture c.loop-file.file-index is other
+    c.requires.cpu c.bytes.ensures c.new-deal.ensures c.in_ok-push.ensures.ok
+    c.in_ok-capture.ensures.read least inv.3

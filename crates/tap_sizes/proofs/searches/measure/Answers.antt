@@ -1,7 +1,7 @@
-use Rattle.std.proofs.Common.{◌≡◌, ◌<◌, ◌≤◌, ◌^◌, ◌*◌, List, arith, length, refl, rules, subst}
-use Rattle.reader_pace.specs.Timelines.{end_of}
+use Rattle.std.proofs.Common.{◌≡◌, ◌<◌, ◌≤◌, ◌^◌, ◌*◌, arith, refl, rules}
 use Rattle.tap_sizes.proofs.Answering.{answerable}
-use Rattle.tap_sizes.proofs.Measured.{deal_early, end_run, laws_of, marks_of, reported}
+use Rattle.tap_sizes.proofs.Measured.{laws_of, marks_of, reported}
+use Rattle.tap_sizes.proofs.ReadFrames.{deal_early, end_is}
 use Rattle.tap_sizes.proofs.searches.measure.Goals as goal
 
 pub answers_of-requires-clause-answered : goal.answers_of-requires-clause-answered
@@ -23,17 +23,17 @@ answers_of-requires-clause-early c =
     let soon : c.in_ok-dealt.dealt.end < 2 ^ 53 = search rules in
     deal_early c.args.job.now c.args.reader.now read.bytes c.args.reads.deals.items
     c.in_ok-dealt.dealt
-    (marks_of read.old read.new c.args.job.now read.bytes c.args.reads.files c.args.reads.deals.items
-    c.all_files_are_what_arrives.ensures read.read_is)
+    (marks_of read.old read.new c.args.job.now c.args.reader.now.more read.bytes c.args.reads.files
+    c.args.reads.deals.items c.all_files_are_what_arrives.ensures read.read_is)
     c.in_ok-dealt.ensures soon
 
 pub returns-then-lasts_too_long : goal.returns-then-lasts_too_long
 returns-then-lasts_too_long c = λ old new bytes read.
     let long : 4294967295 * 1000000 < c.in_ok-dealt.dealt.end = search rules in
-    let same = end_run c.args.job.now bytes c.args.reads.deals.items c.in_ok-dealt.dealt
-    (marks_of old new c.args.job.now bytes c.args.reads.files c.args.reads.deals.items
-    c.all_files_are_what_arrives.ensures read)
-    c.in_ok-dealt.ensures (c.one_file_is_the_capture_of_a_run.ensures.captures bytes) in
+    let same = end_is c.args.job.now bytes c.args.reads.deals.items c.in_ok-dealt.dealt
+    (marks_of old new c.args.job.now c.args.reader.now.more bytes c.args.reads.files
+    c.args.reads.deals.items c.all_files_are_what_arrives.ensures read)
+    c.in_ok-dealt.ensures in
     (refl, omega (arith, long, same))
 
 pub returns : goal.returns
@@ -42,10 +42,9 @@ returns c = λ old new bytes read.
     let reader = c.args.reader.now in
     let answered = c.in_ok-report.ensures in
     reported job reader bytes c.args.reads.deals.items c.in_ok-dealt.dealt c.args.reads.files _ _
-    (marks_of old new job bytes c.args.reads.files c.args.reads.deals.items
+    (marks_of old new job reader.more bytes c.args.reads.files c.args.reads.deals.items
     c.all_files_are_what_arrives.ensures read)
-    c.in_ok-dealt.ensures (c.one_file_is_the_capture_of_a_run.ensures.captures bytes)
-    c.block_size-unit.ensures.value answered
+    c.in_ok-dealt.ensures c.block_size-unit.ensures.value answered
     (laws_of job reader bytes _ _ _ _ (answerable reader c.requires.answered).blocks
     (let two = c.a_shape_is_sound.ensures.sound.two in omega (arith, two))
     c.the_greatest_of_the_passes_is_the_least_ring.ensures

@@ -1,10 +1,7 @@
-use Rattle.std.proofs.Common.{ℕ, List, Bool, Option, Some, sym, subst}
-use Rattle.std.specs.Prelude.{IfSome, IsTrue}
 use Rattle.std.proofs.lemmas.Result.{err_from_is_err_and}
 use Rattle.setup_text.specs.declared.setups.Setup.{Setup}
-use Rattle.tap_outside.proofs.Kept.{OnlyReads-then, to_read_kept}
+use Rattle.tap_outside.proofs.Kept.{OnlyReads-then}
 use Rattle.tap_running.proofs.MeantNames.{lent_meant}
-use Rattle.tap_sizes.specs.SizeNames.{IsRestMeant}
 use Rattle.tap_sizes.specs.SizeWords.{SizeNamed, size_named}
 use Rattle.tap_sizes.proofs.MeantTexts.{rest_meant}
 use Rattle.tap_sizes.proofs.Searched.{at_filter}
@@ -12,14 +9,14 @@ use Rattle.tap_sizes.proofs.size_texts.load_size_job.Goals as goal
 
 pub load_program-requires-after_bounds : goal.load_program-requires-after_bounds
 load_program-requires-after_bounds g c κs within =
-    let store = g.S.Store.seen c.args.store.now in
+    let old = g.S.Store.seen c.args.store.now in
+    let new = g.S.Store.seen c.load_setup.new.store in
     let named : SizeNamed = size_named c.args.asked.setup.now c.args.asked.reader.now in
     let setup : Setup = c.in_ok-setup.setup in
-    subst (λ (meant : List ℕ → Bool). IfSome c.filter_of.result (λ name. IsTrue (meant name.now)))
-    (sym (to_read_kept c.load_setup.ensures.store))
-    (lent_meant store.to_read _ c.filter_of.result setup.filter c.filter_of.ensures
-    (rest_meant store.held store.to_read named c.in_ok-setup.ensures.setup.text setup
-    (g.met.S.Store.untold_reads c.args.store.now) c.requires c.in_ok-setup.ensures.setup.says).filter)
+    lent_meant new.to_read _ c.filter_of.result setup.filter c.filter_of.ensures
+    (rest_meant old new named c.in_ok-setup.ensures.setup.text setup
+    (g.met.S.Store.untold_reads c.args.store.now) c.requires c.in_ok-setup.ensures.setup.says
+    c.load_setup.ensures.store).filter
 
 pub returns-in_err-program-clause-stop : goal.returns-in_err-program-clause-stop
 returns-in_err-program-clause-stop g c =
@@ -35,8 +32,7 @@ pub returns-clause-meant : goal.returns-clause-meant
 returns-clause-meant g c =
     let old = g.S.Store.seen c.args.store.now in
     let named : SizeNamed = size_named c.args.asked.setup.now c.args.asked.reader.now in
-    subst (λ (meant : List ℕ → Bool). IsRestMeant meant named c.in_ok-setup.setup)
-    (sym (to_read_kept (OnlyReads-then _ _ _ c.load_setup.ensures.store
-    c.load_program.ensures.store)))
-    (rest_meant old.held old.to_read named c.in_ok-setup.ensures.setup.text c.in_ok-setup.setup
-    (g.met.S.Store.untold_reads c.args.store.now) c.requires c.in_ok-setup.ensures.setup.says)
+    rest_meant old (g.S.Store.seen c.load_program.new.store) named
+    c.in_ok-setup.ensures.setup.text c.in_ok-setup.setup
+    (g.met.S.Store.untold_reads c.args.store.now) c.requires c.in_ok-setup.ensures.setup.says
+    (OnlyReads-then _ _ _ c.load_setup.ensures.store c.load_program.ensures.store)
