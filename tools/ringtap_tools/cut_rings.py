@@ -38,8 +38,22 @@ class SlotRing:
         self.drop()
         return False
 
-    def drop(self) -> None:
-        self.drops += 1
+    @property
+    def is_full(self) -> bool:
+        """Whether each packet is dropped that comes before the reader's next step."""
+        return self.out >= self.blocks
+
+    def put_all(self, needs: list[int]) -> None:
+        """Packets come, between which nothing else happens."""
+        if self.is_full:
+            self.packets += len(needs)
+            self.drop(len(needs))
+        else:
+            for need in needs:
+                self.put(need)
+
+    def drop(self, count: int = 1) -> None:
+        self.drops += count
         self.is_losing = True
 
     def read(self) -> None:
@@ -75,6 +89,19 @@ class BlockRing(SlotRing):
 
     def fits(self, need: int) -> bool:
         return not self.is_frozen and self.used + need <= self.room
+
+    @property
+    def is_full(self) -> bool:
+        return self.is_frozen and self.out >= self.blocks
+
+    def put_all(self, needs: list[int]) -> None:
+        whole = sum(needs)
+        if self.fits(whole):
+            self.packets += len(needs)
+            self.used += whole
+            self.inside += len(needs)
+        else:
+            super().put_all(needs)
 
     def put(self, need: int) -> bool:
         self.packets += 1
