@@ -132,7 +132,9 @@ class Member:
         while at < len(times):
             time = times[at]
             self.advance(time, time)
-            self.cut_where_full()
+            if self.piece.bytes - self.start[2] >= self.limits.bytes:
+                self.cut("state")
+            self.cut_long_text()
             end = self.alike(times, sums, sizes, at)
             if end > at:
                 self.piece.feed_all(needs[at:end], records[at:end], sizes[end] - sizes[at])
@@ -168,10 +170,8 @@ class Member:
         if is_handed:
             self.hand_over(time)
 
-    def cut_where_full(self) -> None:
-        piece = self.piece
-        is_large = piece.bytes - self.start[2] >= self.limits.bytes
-        if is_large or piece.text - self.start[3] >= self.limits.text:
+    def cut_long_text(self) -> None:
+        if self.piece.text - self.start[3] >= self.limits.text:
             self.cut("state")
 
     def set_clock(self, time: int) -> None:
@@ -202,7 +202,7 @@ class Member:
                 self.stats = self.beat.moment(self.stats_number)
             else:
                 return
-            self.cut_where_full()
+            self.cut_long_text()
 
     def take_tick(self, until: int) -> None:
         """The next due tick; of those that do nothing the last one alone."""
