@@ -7,7 +7,8 @@ second time, with two rings more before it, and has to give the same. The reader
 those of `schedule.py`.
 
 Groups that roll over, and reassembly, are refused: their members, and their pieces, don't stand
-alone.
+alone. With --smallest ringsize is asked for the smallest ring that never freezes; a capture of more
+than 32 MiB is given to it in parts.
 """
 from __future__ import annotations
 
@@ -16,7 +17,7 @@ import sys
 import time
 from collections import deque
 from concurrent.futures import Future
-from dataclasses import dataclass, field
+from dataclasses import asdict, dataclass, field
 from itertools import compress
 from pathlib import Path
 
@@ -24,8 +25,10 @@ from .cut_members import Cut, Limits, Member, Shape
 from .cut_pieces import Piece, less
 from .cut_rings import Counts
 from .deals import Batch, Clock, CpuStream, Dealer, PieceRoom, fed
+from .file_parts import PartsAsker
 from .files import Fault, Setup, read_setup
 from .model import Timer, need_of, room_of
+from .ringsizes import NotAsked, Sized, ringsize_of
 from .runs import Report, add_program, program_of
 from .schedule import DEFAULT_TIMEOUT, Pace, add_pace, pace_of
 from .words import ToolParser, add_json, print_json
@@ -317,22 +320,78 @@ def parser_of() -> ToolParser:
         metavar="N",
         help=f"bytes of a piece, at most {LARGEST_PIECE}, which is the default",
     )
+    parser.add_argument(
+        "--smallest",
+        action="store_true",
+        help="the smallest ring that never freezes too, by ringsize, which looks at every whole"
+        " millisecond of the timer and of the reader's beginning",
+    )
     add_pace(parser)
     add_json(parser)
     add_program(parser)
     return parser
 
 
+def smallest_of(program: Path, room: PieceRoom, pace: Pace, is_v2: bool) -> Sized | str:
+    """The smallest ring by ringsize, or why it has no answer."""
+    try:
+        ringsize = ringsize_of(program)
+        if not ringsize:
+            raise NotAsked("ringsize isn't there")
+        if is_v2:
+            raise NotAsked("ringsize is asked for rings of blocks alone")
+        return PartsAsker(ringsize, room, pace).smallest(PartsProgress().step)
+    except NotAsked as reason:
+        return str(reason)
+
+
+class PartsProgress:
+    """How much ringsize has read, on standard error where that is a terminal."""
+
+    def __init__(self) -> None:
+        self.done = 0
+
+    def step(self, count: int) -> None:
+        self.done += count
+        if sys.stderr.isatty():
+            told = f"\rringsize has read {self.done / MEBIBYTE:,.0f} MiB "
+            print(told, end="", file=sys.stderr, flush=True)
+
+
+def smallest_words(found: Sized | str, setup: Setup) -> str:
+    if isinstance(found, str):
+        return f"no smallest ring: {found}"
+    begin = f"a reader that begins {found.begin} ms after the first frame"
+    return (
+        "the smallest ring that never freezes, at every whole millisecond of the timer and of the"
+        f" reader's beginning: {found.blocks} blocks of {setup.number('block_size')} bytes; so many"
+        f" are needed at phase {found.phase}, for {begin} (by `ringsize`)"
+    )
+
+
 def main(words: list[str]) -> int:
     args = parser_of().parse_args(words)
     setup, pace, program = read_setup(args.setup), pace_of(args), program_of(args.program)
     refuse(setup)
+    smallest: Sized | str | None = None
     with PieceRoom(setup, program) as room:
         room.check()
         run = LongRun(setup, room, pace, args)
         run.make()
+        if args.smallest:
+            smallest = smallest_of(program, room, pace, args.replay2)
     if args.json:
-        print_json(object_of(run))
+        print_json(object_of(run) | smallest_object(smallest))
+        if isinstance(smallest, str):
+            print(f"no smallest ring: {smallest}", file=sys.stderr)
     else:
         print("\n".join([*lines_of(run), "", cuts_words(run)]))
+        if smallest:
+            print(smallest_words(smallest, setup))
     return 0
+
+
+def smallest_object(found: Sized | str | None) -> dict[str, object]:
+    if found is None:
+        return {}
+    return {"smallest": None if isinstance(found, str) else asdict(found)}

@@ -120,16 +120,21 @@ class Asker:
         return seconds
 
     def answer(self, lines: list[str]) -> Sized:
-        (self.room.folder / "reader").write_text("\n".join([*lines, ""]))
-        done = run_program(self.program, ["sized", "reader"], self.room.folder, dict(os.environ))
-        if done.returncode == 3 and (refused := NO_ANSWER.search(done.stdout)):
-            raise NotAsked(f"ringsize says: {refused[0]}")
-        found = [GROUP_LINE.fullmatch(line) for line in done.stdout.splitlines()]
-        told = [one for one in found if one]
-        if done.returncode or len(told) != 1:
-            said = f"{status_words(done.returncode)} (status {done.returncode})"
-            raise Fault(f"{self.program}: {said}: {done.stdout.strip() or 'it printed nothing'}")
-        return Sized(*map(int, told[0].groups()))
+        return answered(self.program, self.room.folder, lines)
+
+
+def answered(program: Path, folder: Path, lines: list[str]) -> Sized:
+    """What ringsize answers of `sized`, a setup in a folder, and of a reader's text."""
+    (folder / "reader").write_text("\n".join([*lines, ""]))
+    done = run_program(program, ["sized", "reader"], folder, dict(os.environ))
+    if done.returncode == 3 and (refused := NO_ANSWER.search(done.stdout)):
+        raise NotAsked(f"ringsize says: {refused[0]}")
+    found = [GROUP_LINE.fullmatch(line) for line in done.stdout.splitlines()]
+    told = [one for one in found if one]
+    if done.returncode or len(told) != 1:
+        said = f"{status_words(done.returncode)} (status {done.returncode})"
+        raise Fault(f"{program}: {said}: {done.stdout.strip() or 'it printed nothing'}")
+    return Sized(*map(int, told[0].groups()))
 
 
 class Finder:
