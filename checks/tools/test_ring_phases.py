@@ -19,8 +19,8 @@ def steady(here: Here) -> None:
 def test_least_by_hand(here: Here) -> None:
     """Nobody reads. Frame n comes n ms after the first. Begun p ms before it the timer runs out at
     56 - p and at 112 - p: the frames come in parts of 56 - p, 56 and p of them, and each begins a
-    block. Of 28 that fill one, p = 0 and p = 28 make 4 blocks and any other p 5, so the least ring
-    has 5 blocks. A ring of 2 keeps what two blocks have: with p < 28 all of the first 28 frames and
+    block. Of 28 that fill one, p = 0 and p = 28 make 4 blocks and any other p 5, so the smallest
+    ring has 5 blocks. A ring of 2 keeps what two blocks have: with p < 28 all of the first 28 frames and
     then min(28, 28 - p), so 56 - p; with p from 28 on the first block has 56 - p frames and the
     second 28. So it keeps 28 or more and 56 at most: at p = 27 and 55 it keeps 29, and so drops
     83."""
@@ -51,8 +51,8 @@ def test_judged(here: Here) -> None:
     """The words name the phases, and both sides of the answer were run."""
     steady(here)
     printed = here.with_program("ring_size.py", "steady.txt").printed
-    least = "the least ring that never freezes, at every whole millisecond of the timer: 5 blocks"
-    assert least in printed
+    least = "the smallest ring that never freezes, at every whole millisecond of the timer"
+    assert f"{least}: 5 blocks" in printed
     judged = "`ringtap replay` judged: 5 blocks never freeze; 4 blocks freeze"
     assert f"of 56, and there {judged}\n" in printed
     assert printed.endswith("about this capture: 112 frames in 0.111 s; whole\n")

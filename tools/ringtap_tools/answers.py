@@ -1,5 +1,5 @@
-"""How the least ring is found: at every whole millisecond of the timer by ringsize, or else by the
-tools' own model, `ringtap replay` judging, or by that program alone at some phases."""
+"""How the smallest ring is found: at every whole millisecond of the timer by ringsize, or else by
+the tools' own model, `ringtap replay` judging, or by that program alone at some phases."""
 from __future__ import annotations
 
 from dataclasses import replace
@@ -35,7 +35,7 @@ class Search:
 
     def run(self, ring: Ring, least: Least, phase: int) -> Report:
         """A run of the program, which the model has to agree with. Key and beginning are those of
-        the least ring."""
+        the smallest ring."""
         if (ring, least, phase) in self.reports:
             return self.reports[ring, least, phase]
         report = self.trials.run(ring, phase, key=least.key, begin=least.begin)
@@ -47,7 +47,7 @@ class Search:
         return report
 
     def model_for(self, least: Least) -> Model:
-        """The model with the reader's beginning of the least ring."""
+        """The model with the reader's beginning of the smallest ring."""
         return self.model.with_pace(begun(self.model.pace, least.begin))
 
     def result(self, ring: Ring, least: Least) -> Result:
@@ -85,7 +85,7 @@ class Search:
         where = f"at phase {least.phase} of {len(self.model.phases(ring))}"
         said = f"{found} {where}, and there `ringtap replay` judged: {'; '.join(sides)}"
         if answer is None or answer.ring.block_nr != blocks:
-            return f"the least ring that never freezes has {blocks} blocks; {said}"
+            return f"the smallest ring that never freezes has {blocks} blocks; {said}"
         return said
 
     def side(self, ring: Ring, least: Least, count: int) -> str:

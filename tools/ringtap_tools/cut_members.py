@@ -2,7 +2,7 @@
 
 Ticks that do nothing, and reads that find nothing, are left out, as `schedule.py` leaves them out.
 A run is cut at a pause where the reader's own steps make one: they come often enough for all
-blocks, then a due tick, then a step, and no packet meanwhile (the law
+blocks, then a due tick, then a step, and no packet meanwhile (the theorem
 `a_run_may_be_cut_at_a_pause` of ring_laws). Where none comes before a piece is full it is cut where
 it is, and the next piece has a beginning that brings a new ring to the state there. Times are
 nanoseconds from the first frame on.

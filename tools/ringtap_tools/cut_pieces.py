@@ -1,9 +1,9 @@
 """A piece of a long run: what is fed to one member and when, and the beginning that brings a new
 ring to the state in which the piece before it left the member's ring.
 
-A beginning is that of the law `a_new_ring_is_brought_to_the_state_of_any_ring` of ring_laws, step
-by step; after a pause it is that of `a_run_may_be_cut_at_a_pause`. The packets that it makes are
-`FILLER`.
+A beginning is that of the theorem `a_new_ring_is_brought_to_the_state_of_any_ring` of ring_laws,
+step by step; after a pause it is that of `a_run_may_be_cut_at_a_pause`. The packets that it makes
+are `FILLER`.
 """
 from __future__ import annotations
 

@@ -1,6 +1,6 @@
 """A ring's state beside the pieces of a long run: all that the rest of the run depends on.
 
-What that is says the law `rings_alike_go_on_alike` of ring_laws, and for slots the law
+What that is says the theorem `rings_alike_go_on_alike` of ring_laws, and for slots the
 `rings_of_slots_alike_go_on_alike` of replay_laws: the packets of the open block, how many blocks
 the reader has, how far off the deadline is, and whether packets were lost since the statistics were
 last taken. The state is worked out here and not proved; so each piece is compared with the program.

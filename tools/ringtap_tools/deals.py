@@ -4,7 +4,7 @@ A capture is read as a stream and cut into parts. The program runs each of them 
 keeps all, with the setup's filter, and its dump says which frames pass, how many bytes of each are
 offered, and its flow hash. How a mode deals them out is counted here, by the rules of
 docs/reference.md, section 9. Without rollover each member stands alone, and what it is given
-doesn't depend on the rings (the law `members_stand_alone_without_rollover` of replay_laws).
+doesn't depend on the rings (the theorem `members_stand_alone_without_rollover` of replay_laws).
 """
 from __future__ import annotations
 

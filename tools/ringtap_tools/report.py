@@ -178,7 +178,7 @@ def answer_words(found: dict) -> str:
     where = ", at every whole millisecond of the timer" if found["is_every_millisecond"] else ""
     does = "never freezes" if found["is_every_millisecond"] else "loses nothing"
     return (
-        f"The least ring that {does}{where}: <b>{least['block_nr']} blocks of"
+        f"The smallest ring that {does}{where}: <b>{least['block_nr']} blocks of"
         f" {least['block_size']:,} bytes</b>, time-out {least['tov'] or DEFAULT_TIMEOUT} ms,"
         f" {kib(least['memory'])} in all."
     )

@@ -1,4 +1,4 @@
-"""Asks ringsize, a program whose answer is proved, for the least ring that never freezes at any
+"""Asks ringsize, a program whose answer is proved, for the smallest ring that never freezes at any
 phase of the timer and any beginning of the reader, each to the whole millisecond.
 
 What it is asked is a setup and a reader's text (docs/reference.md, section 13). A reader that has
@@ -33,7 +33,7 @@ class NotAsked(Exception):
 
 @dataclass(frozen=True)
 class Sized:
-    """The least ring of all members, and a phase and a beginning at which it has to be so large,
+    """The smallest ring of all members, and a phase and a beginning at which it has to be so large,
     both in milliseconds."""
 
     blocks: int
@@ -88,7 +88,7 @@ class Asker:
         self.captures = captures
 
     def least(self, ring: Ring, pace: Pace, key: str | None, is_longer: bool) -> Sized:
-        """The least ring for all members; NotAsked where there is no answer."""
+        """The smallest ring for all members; NotAsked where there is no answer."""
         if is_longer:
             raise NotAsked("ringsize takes the captures' own lengths alone")
         lines = reader_lines(pace, ring)
@@ -138,13 +138,13 @@ def answered(program: Path, folder: Path, lines: list[str]) -> Sized:
 
 
 class Finder:
-    """Finds least rings by ringsize, and where that isn't there or has no answer by the model."""
+    """Finds smallest rings by ringsize, or where that isn't there or has no answer by the model."""
 
     def __init__(self, asker: Asker | None) -> None:
         self.asker = asker
 
     def find(self, model: Model, trials: Trials, ring: Ring, mine: Least) -> tuple[Least, str]:
-        """The least ring, of the key of one that the model found, and who found it, in words."""
+        """The smallest ring, of the key of one that the model found, and who found it, in words."""
         pace = model.pace
         try:
             if not self.asker:

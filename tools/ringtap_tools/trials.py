@@ -295,7 +295,7 @@ def least_of(results: list[Result]) -> Result | None:
 
 
 def answers_by_mode(results: list[Result]) -> list[Result]:
-    """For each mode and number of members its least ring that loses nothing, or else its
+    """For each mode and number of members its smallest ring that loses nothing, or else its
     largest."""
     groups: dict[tuple[str, int], list[Result]] = {}
     for result in results:
