@@ -20,10 +20,10 @@ def test_least_by_hand(here: Here) -> None:
     """Nobody reads. Frame n comes n ms after the first. Begun p ms before it the timer runs out at
     56 - p and at 112 - p: the frames come in parts of 56 - p, 56 and p of them, and each begins a
     block. Of 28 that fill one, p = 0 and p = 28 make 4 blocks and any other p 5, so the smallest
-    ring has 5 blocks. A ring of 2 keeps what two blocks have: with p < 28 all of the first 28 frames and
-    then min(28, 28 - p), so 56 - p; with p from 28 on the first block has 56 - p frames and the
-    second 28. So it keeps 28 or more and 56 at most: at p = 27 and 55 it keeps 29, and so drops
-    83."""
+    ring has 5 blocks. A ring of 2 keeps what two blocks have: with p < 28 all of the first 28
+    frames and then min(28, 28 - p), so 56 - p; with p from 28 on the first block has 56 - p frames
+    and the second 28. So it keeps 28 or more and 56 at most: at p = 27 and 55 it keeps 29, and so
+    drops 83."""
     steady(here)
     printed, said, status = here.with_program("ring_size.py", "steady.txt", "--json")
     found = json.loads(printed)

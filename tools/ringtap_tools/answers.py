@@ -6,7 +6,7 @@ from dataclasses import replace
 
 from .about import refuse_filtered
 from .files import Fault
-from .ringsizes import Finder
+from .ringsizes import ASKED, Finder
 from .runs import Progress, Report
 from .search import Least, Model, compare, key_of, keys_of, rung
 from .trials import LEAST_BLOCKS, ROLLOVER, Result, Ring, Trials, begun, least_of, lines_of
@@ -29,6 +29,7 @@ class Search:
     def __init__(self, trials: Trials, model: Model, keys: int, finder: Finder) -> None:
         self.trials, self.model, self.keys, self.finder = trials, model, keys, finder
         self.judgement: list[str] = []
+        self.finders: set[str] = set()  # ringsize, model
         self.key_words: list[str] = []
         self.filtered = 0
         self.reports: dict[tuple[Ring, Least, int], Report] = {}
@@ -65,6 +66,7 @@ class Search:
         ring = rings[0]
         keys = keys_of(self.model, ring, self.keys if ring.mode == "hash" else 0)
         least, found = self.finder.find(self.model, self.trials, ring, keys.worst)
+        self.finders.add("ringsize" if found.startswith(ASKED) else "model")
         if keys.others:
             self.key_words.append(keys.words())
         wanted, blocks = {one.block_nr for one in rings}, max(least.blocks, LEAST_BLOCKS)

@@ -184,6 +184,15 @@ def answer_words(found: dict) -> str:
     )
 
 
+def finder_words(found: dict) -> str:
+    """Who found the answer."""
+    if not found["found_by"]:
+        return "Found by"
+    is_asked = found["found_by"] == ["ringsize"]
+    whose = "<code>ringsize</code>" if is_asked else "the tools' own model"
+    return f"Found by {whose} and judged by"
+
+
 def page_of(title: str, assumed: str, made: dict, pictures: dict[str, str]) -> str:
     """The whole page."""
     found, shown, lost = made["sizes"], made["shown"], made["lost"]
@@ -228,8 +237,8 @@ def page_of(title: str, assumed: str, made: dict, pictures: dict[str, str]) -> s
         + "</p>",
         f"<p>{escape(about_words(about, found['about']['filtered']).capitalize())}.</p>",
         (
-            f"<p>Assumed of the reader: {escape(assumed)}. Found by the tools' own model and judged"
-            " by <code>ringtap replay</code>.</p>"
+            f"<p>Assumed of the reader: {escape(assumed)}. {finder_words(found)}"
+            " <code>ringtap replay</code>.</p>"
         ),
         "<h2>The captures</h2>",
         rows_of(["capture", "frames", "seconds", "cut frames", "drops it tells of"], captures),

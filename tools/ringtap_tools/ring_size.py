@@ -654,6 +654,7 @@ class Answer:
     judgement: list[str]  # what the program said of the answer and of its neighbour
     keys: list[str]
     kernel: list[str]  # losses as a kernel rolls over, by the tool's own model
+    finders: list[str]  # ringsize, model; none where the program alone was run
 
 
 def print_words(first: str, answer: Answer) -> None:
@@ -705,6 +706,7 @@ def object_of(pace: Pace, answer: Answer) -> dict[str, object]:
         "rings": rings,
         "least": dict(zip(HEADS, row_of(least))) if least else None,
         "is_every_millisecond": bool(least and least.drops_by_phase),
+        "found_by": answer.finders,
         "members": [dict(zip(names, row)) for row in answer.rows],
         "evenness": [
             {"mode": row[0], "members": row[1], "packets": float(row[2]), "bytes": float(row[3])}
@@ -802,7 +804,10 @@ def found(
     kernel, rows, asked = kernel_words(model, results), member_rows(trials, results), []
     if least and not args.replay2:
         asked = advice_of(finder, trials, model, least.ring, is_reserved)
-    return Answer(results, least, rows, asked, fed, filtered, said, search.key_words, kernel)
+    finders = sorted(search.finders)
+    return Answer(
+        results, least, rows, asked, fed, filtered, said, search.key_words, kernel, finders
+    )
 
 
 def explained(

@@ -24,6 +24,7 @@ from .trials import Ring, Trials, changes_of
 
 GROUP_LINE = re.compile(r"group (?:blocks|slots) (\d+) phase (\d+) from (\d+)(?: beyond)?")
 NO_ANSWER = re.compile(r"(?:setup|reader): .* has no answer yet")
+ASKED = "`ringsize` found it"  # so begin the words where it was asked
 LONG = 5  # seconds from which on it is said how long a search takes
 
 
@@ -153,10 +154,10 @@ class Finder:
         except NotAsked as reason:
             return mine, f"{reason}, so the tool's own model found it"
         if steps_of(pace, ring.block_size) is None or pace.begin is not None:
-            return Least(one.blocks, one.phase, mine.key), "`ringsize` found it"
+            return Least(one.blocks, one.phase, mine.key), ASKED
         found = Least(one.blocks, one.phase, mine.key, one.begin)
         whose = f"for a reader that begins {one.begin} ms after the first frame"
-        return found, f"`ringsize` found it {whose},"
+        return found, f"{ASKED} {whose},"
 
 
 class Waiting:
