@@ -121,3 +121,17 @@ def test_loop(here: Here) -> None:
     printed = here.with_program("ring_size.py", *words).printed
     assert rows(printed)[0][7:9] == ["56", "280"]
     assert "about this capture: 336 frames" in printed
+
+
+def test_the_answer_is_marked(here: Here) -> None:
+    """Two frames 20 ms apart are two blocks, handed over by the timer of 8 ms; the reader comes
+    after a second, and another frame after two. So two blocks freeze and lose nothing, and three
+    never freeze: the answer, and what is marked and shown of members, has three."""
+    here.capture("three.pcap", [(at * 1000, frame(at)) for at in (0, 20, 2000)])
+    here.text("three.txt", BLOCK + "cpu three.pcap\n")
+    words = ["three.txt", "--pause", "1000", "--json", "--pictures", "made"]
+    found = json.loads(here.with_program("ring_size.py", *words).printed)
+    two = found["rings"][0]
+    assert (two["block_nr"], two["drops"], two["freezes"]) == (2, 0, 1)
+    assert found["least"]["block_nr"] == 3
+    assert "smallest: 12 KiB" in (here.path / "made" / "drops.svg").read_text()

@@ -67,7 +67,7 @@ def test_grid(here: Here) -> None:
         node.text
         for node in xml.etree.ElementTree.parse(here.path / "made/drops.svg").iter(f"{SVG}text")
     ]
-    assert "least: 16 KiB" in words
+    assert "smallest: 16 KiB" in words
     assert "many.pcap: 100 frames in 0.000 s; nobody reads before all frames are fed" in words
 
 

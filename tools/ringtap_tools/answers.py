@@ -75,7 +75,8 @@ class Search:
         elif min(wanted) < blocks <= max(wanted):
             wanted |= {blocks, blocks - 1}
         counts = [count for count in sorted(wanted) if replace(ring, block_nr=count).fits]
-        results = [self.result(replace(ring, block_nr=count), least) for count in counts]
+        looked = [self.result(replace(ring, block_nr=count), least) for count in counts]
+        results = [replace(one, never_freezes=one.ring.block_nr >= blocks) for one in looked]
         answer = next((one for one in results if one.ring.block_nr >= blocks), None)
         self.judgement.append(self.judged(ring, least, found, answer))
         return results, answer

@@ -38,6 +38,7 @@ h1{font-size:1.5rem}h2{font-size:1.2rem;margin-top:2rem}
 .answer{border-left:.3rem solid var(--link);background:var(--soft);padding:.6rem .8rem}
 .picture,.table{overflow-x:auto;margin:1rem 0}
 .picture svg{min-width:34rem;max-width:100%;height:auto}
+.picture svg>rect:first-of-type{fill:transparent}
 table{border-collapse:collapse;font-variant-numeric:tabular-nums}
 th,td{padding:.2rem .6rem;border-bottom:1px solid var(--line);text-align:right;white-space:nowrap}
 th{cursor:pointer;background:var(--soft)}th:first-child,td:first-child{text-align:left}
@@ -214,7 +215,7 @@ def page_of(title: str, assumed: str, made: dict, pictures: dict[str, str]) -> s
         for one in about
     ]
     sizes = [
-        [ring["block_nr"], ring["memory"], ring["fewest"], ring["drops"], ring["phase"]]
+        [ring[name] for name in ("block_nr", "memory", "fewest", "drops", "phase", "freezes")]
         for ring in found["rings"]
     ]
     flows = [
@@ -244,10 +245,10 @@ def page_of(title: str, assumed: str, made: dict, pictures: dict[str, str]) -> s
         rows_of(["capture", "frames", "seconds", "cut frames", "drops it tells of"], captures),
         "<h2>What smaller rings lose</h2>",
         (
-            "<p>Packets dropped at the best and at the worst phase of the timer, and that phase in"
-            " milliseconds.</p>"
+            "<p>Packets dropped at the best and at the worst phase of the timer, that phase in"
+            " milliseconds, and how often the ring freezes there.</p>"
         ),
-        rows_of(["blocks", "bytes", "fewest", "most", "worst phase"], sizes),
+        rows_of(["blocks", "bytes", "fewest", "most", "worst phase", "freezes"], sizes),
         f'<div class="picture">{pictures["drops"]}</div>',
         f"<h2>A ring of {shown['block_nr']} blocks over time</h2>",
         (

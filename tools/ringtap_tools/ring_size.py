@@ -397,7 +397,7 @@ def drops_picture(results: list[Result], least: Result | None, title: str) -> st
             points.append((result.ring.memory, result.drops, told))
         panels[-1].series.append(Series(series_name(line[0].ring, rings, named), points))
         if least and least in line:
-            panels[-1].mark = (least.ring.memory, 0, f"least: {kib(least.ring.memory)}")
+            panels[-1].mark = (least.ring.memory, 0, f"smallest: {kib(least.ring.memory)}")
     return points_chart(
         "Packets dropped, by the memory of the ring",
         title,
