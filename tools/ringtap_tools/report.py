@@ -28,15 +28,18 @@ HERE = Path(__file__).resolve().parent.parent  # where the commands are
 BINS, FLOWS = 40, 20
 DEFAULT_PAUSE = "100"
 STYLE = """
-:root{color-scheme:light dark;--ink:#222;--page:#fff;--line:#ccc;--soft:#f3f5f7;--link:#0072b2}
+:root{color-scheme:light dark;--ink:#222;--page:#fff;--line:#ccc;--shade:#999;--soft:#f3f5f7;
+--link:#0072b2}
 @media (prefers-color-scheme:dark){:root{--ink:#e6e6e6;--page:#16181b;--line:#444;
---soft:#22262b;--link:#56b4e9}
+--shade:#777;--soft:#22262b;--link:#56b4e9}
 .picture svg{filter:invert(.91) hue-rotate(180deg)}}
 body{font:16px/1.5 system-ui,sans-serif;color:var(--ink);background:var(--page);
 margin:0 auto;max-width:60rem;padding:1rem}
 h1{font-size:1.5rem}h2{font-size:1.2rem;margin-top:2rem}
 .answer{border-left:.3rem solid var(--link);background:var(--soft);padding:.6rem .8rem}
-.picture,.table{overflow-x:auto;margin:1rem 0}
+.picture,.table{overflow-x:auto;margin:1rem 0;
+background:linear-gradient(to left,var(--page) 40%,transparent) right/2.5rem 100% no-repeat local,
+linear-gradient(to left,var(--shade),transparent) right/1rem 100% no-repeat scroll}
 .picture svg{min-width:34rem;max-width:100%;height:auto}
 .picture svg>rect:first-of-type{fill:transparent}
 table{border-collapse:collapse;font-variant-numeric:tabular-nums}
