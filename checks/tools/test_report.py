@@ -52,7 +52,7 @@ def test_page(here: Here) -> None:
     captures, sizes, members, flows = page.tables
     found = json.loads(here.with_program("ring_size.py", "steady.txt", "--json").printed)
     wanted = [
-        [ring["block_nr"], ring["memory"], ring["fewest"], ring["drops"], ring["phase"]]
+        [ring[name] for name in ("block_nr", "memory", "fewest", "drops", "phase", "freezes")]
         for ring in found["rings"]
     ]
     assert [[int(cell.replace(",", "")) for cell in row] for row in sizes[1:]] == wanted

@@ -19,11 +19,11 @@ def steady(here: Here) -> None:
 def test_least_by_hand(here: Here) -> None:
     """Nobody reads. Frame n comes n ms after the first. Begun p ms before it the timer runs out at
     56 - p and at 112 - p: the frames come in parts of 56 - p, 56 and p of them, and each begins a
-    block. Of 28 that fill one, p = 0 and p = 28 make 4 blocks and any other p 5, so the least ring
-    has 5 blocks. A ring of 2 keeps what two blocks have: with p < 28 all of the first 28 frames and
-    then min(28, 28 - p), so 56 - p; with p from 28 on the first block has 56 - p frames and the
-    second 28. So it keeps 28 or more and 56 at most: at p = 27 and 55 it keeps 29, and so drops
-    83."""
+    block. Of 28 that fill one, p = 0 and p = 28 make 4 blocks and any other p 5, so the smallest
+    ring has 5 blocks. A ring of 2 keeps what two blocks have: with p < 28 all of the first 28
+    frames and then min(28, 28 - p), so 56 - p; with p from 28 on the first block has 56 - p frames
+    and the second 28. So it keeps 28 or more and 56 at most: at p = 27 and 55 it keeps 29, and so
+    drops 83."""
     steady(here)
     printed, said, status = here.with_program("ring_size.py", "steady.txt", "--json")
     found = json.loads(printed)
@@ -51,8 +51,8 @@ def test_judged(here: Here) -> None:
     """The words name the phases, and both sides of the answer were run."""
     steady(here)
     printed = here.with_program("ring_size.py", "steady.txt").printed
-    least = "the least ring that never freezes, at every whole millisecond of the timer: 5 blocks"
-    assert least in printed
+    least = "the smallest ring that never freezes, at every whole millisecond of the timer"
+    assert f"{least}: 5 blocks" in printed
     judged = "`ringtap replay` judged: 5 blocks never freeze; 4 blocks freeze"
     assert f"of 56, and there {judged}\n" in printed
     assert printed.endswith("about this capture: 112 frames in 0.111 s; whole\n")
@@ -121,3 +121,17 @@ def test_loop(here: Here) -> None:
     printed = here.with_program("ring_size.py", *words).printed
     assert rows(printed)[0][7:9] == ["56", "280"]
     assert "about this capture: 336 frames" in printed
+
+
+def test_the_answer_is_marked(here: Here) -> None:
+    """Two frames 20 ms apart are two blocks, handed over by the timer of 8 ms; the reader comes
+    after a second, and another frame after two. So two blocks freeze and lose nothing, and three
+    never freeze: the answer, and what is marked and shown of members, has three."""
+    here.capture("three.pcap", [(at * 1000, frame(at)) for at in (0, 20, 2000)])
+    here.text("three.txt", BLOCK + "cpu three.pcap\n")
+    words = ["three.txt", "--pause", "1000", "--json", "--pictures", "made"]
+    found = json.loads(here.with_program("ring_size.py", *words).printed)
+    two = found["rings"][0]
+    assert (two["block_nr"], two["drops"], two["freezes"]) == (2, 0, 1)
+    assert found["least"]["block_nr"] == 3
+    assert "smallest: 12 KiB" in (here.path / "made" / "drops.svg").read_text()

@@ -51,7 +51,8 @@ def test_grid(here: Here) -> None:
     assert (rows_of(printed), said, status) == (wanted, "", 0)
     assert printed.split("\n")[0] == "nobody reads before all frames are fed"
     assert below(printed)[:2] == [
-        "the least ring that loses nothing: 4 blocks of 4096 bytes, time-out 8 ms; 16 KiB in all",
+        "the smallest ring that loses nothing: 4 blocks of 4096 bytes, time-out 8 ms; 16 KiB in"
+        " all",
         "with 3 blocks 16 of 100 packets are lost",
     ]
     with open(here.path / "made" / "table.csv", newline="") as file:
@@ -66,7 +67,7 @@ def test_grid(here: Here) -> None:
         node.text
         for node in xml.etree.ElementTree.parse(here.path / "made/drops.svg").iter(f"{SVG}text")
     ]
-    assert "least: 16 KiB" in words
+    assert "smallest: 16 KiB" in words
     assert "many.pcap: 100 frames in 0.000 s; nobody reads before all frames are fed" in words
 
 
@@ -83,7 +84,8 @@ def test_halving(here: Here) -> None:
         "cpu,1,0,4096,35,143360,0,980,20,1,35,20"
     ]
     assert (below(printed)[0], status) == (
-        "the least ring that loses nothing: 36 blocks of 4096 bytes, time-out 8 ms; 144 KiB in all",
+        "the smallest ring that loses nothing: 36 blocks of 4096 bytes, time-out 8 ms; 144 KiB in"
+        " all",
         0
     )
     assert here.answer([here.program, "replay", "least.txt", "/dev/null"])[0].split("\n")[2] == (
@@ -229,7 +231,8 @@ def test_slots(here: Here) -> None:
         "ring_size.py", setup, "--replay2", "-o", "slots-least.txt"
     )
     assert (below(printed)[0], status) == (
-        "the least ring that loses nothing: 100 slots of 2048 bytes, in 50 blocks of 4096 bytes; "
+        "the smallest ring that loses nothing: 100 slots of 2048 bytes, in 50 blocks of 4096"
+        " bytes; "
         "200 KiB in all",
         0
     )

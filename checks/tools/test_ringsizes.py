@@ -31,8 +31,8 @@ def stand_in(here: Here, monkeypatch: pytest.MonkeyPatch, lines: str, status: in
 
 
 def worst(here: Here, monkeypatch: pytest.MonkeyPatch) -> tuple[int, int, int]:
-    """The least ring for the demo's capture by the tools' own model at all phases and beginnings,
-    with the first of each at which it has to be so large."""
+    """The smallest ring for the demo's capture by the tools' own model at all phases and
+    beginnings, with the first of each at which it has to be so large."""
     monkeypatch.chdir(TOP)
     setup, ring = read_setup(Path("demo/small.txt")), Ring("cpu", 1, 0, 4096, 2, 2048)
     with Room(setup, here.program) as room:

@@ -22,7 +22,8 @@ def refuse_parts(about: Sequence[About]) -> None:
             raise NoAnswer(
                 f"{one.path}: has more than {LARGEST_CAPTURE:,} bytes, and {one.frames:,} frames of"
                 " them were read: no answer for a part; tools/busiest.py takes the whole, and cuts"
-                " out the hardest part, and tools/long.py says what a given ring loses of all"
+                " out the hardest part; tools/long.py says what a given ring loses of all, and with"
+                " --smallest which ring never freezes"
             )
         if one.end != "ok":
             raise NoAnswer(

@@ -53,7 +53,7 @@ class Advice:
 
 
 def least_of(finder: Finder, trials: Trials, model: Model, ring: Ring) -> tuple[Least, bool]:
-    """The least ring of a program, and whether that was judged."""
+    """The smallest ring of a program, and whether that was judged."""
     least = finder.find(model, trials, ring, model.worst_least(ring))[0]
     model = model.with_pace(begun(model.pace, least.begin))
     return least, judged(trials, model, ring, least)

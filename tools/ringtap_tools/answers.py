@@ -1,12 +1,12 @@
-"""How the least ring is found: at every whole millisecond of the timer by ringsize, or else by the
-tools' own model, `ringtap replay` judging, or by that program alone at some phases."""
+"""How the smallest ring is found: at every whole millisecond of the timer by ringsize, or else by
+the tools' own model, `ringtap replay` judging, or by that program alone at some phases."""
 from __future__ import annotations
 
 from dataclasses import replace
 
 from .about import refuse_filtered
 from .files import Fault
-from .ringsizes import Finder
+from .ringsizes import ASKED, Finder
 from .runs import Progress, Report
 from .search import Least, Model, compare, key_of, keys_of, rung
 from .trials import LEAST_BLOCKS, ROLLOVER, Result, Ring, Trials, begun, least_of, lines_of
@@ -29,13 +29,14 @@ class Search:
     def __init__(self, trials: Trials, model: Model, keys: int, finder: Finder) -> None:
         self.trials, self.model, self.keys, self.finder = trials, model, keys, finder
         self.judgement: list[str] = []
+        self.finders: set[str] = set()  # ringsize, model
         self.key_words: list[str] = []
         self.filtered = 0
         self.reports: dict[tuple[Ring, Least, int], Report] = {}
 
     def run(self, ring: Ring, least: Least, phase: int) -> Report:
         """A run of the program, which the model has to agree with. Key and beginning are those of
-        the least ring."""
+        the smallest ring."""
         if (ring, least, phase) in self.reports:
             return self.reports[ring, least, phase]
         report = self.trials.run(ring, phase, key=least.key, begin=least.begin)
@@ -47,7 +48,7 @@ class Search:
         return report
 
     def model_for(self, least: Least) -> Model:
-        """The model with the reader's beginning of the least ring."""
+        """The model with the reader's beginning of the smallest ring."""
         return self.model.with_pace(begun(self.model.pace, least.begin))
 
     def result(self, ring: Ring, least: Least) -> Result:
@@ -65,6 +66,7 @@ class Search:
         ring = rings[0]
         keys = keys_of(self.model, ring, self.keys if ring.mode == "hash" else 0)
         least, found = self.finder.find(self.model, self.trials, ring, keys.worst)
+        self.finders.add("ringsize" if found.startswith(ASKED) else "model")
         if keys.others:
             self.key_words.append(keys.words())
         wanted, blocks = {one.block_nr for one in rings}, max(least.blocks, LEAST_BLOCKS)
@@ -73,7 +75,8 @@ class Search:
         elif min(wanted) < blocks <= max(wanted):
             wanted |= {blocks, blocks - 1}
         counts = [count for count in sorted(wanted) if replace(ring, block_nr=count).fits]
-        results = [self.result(replace(ring, block_nr=count), least) for count in counts]
+        looked = [self.result(replace(ring, block_nr=count), least) for count in counts]
+        results = [replace(one, never_freezes=one.ring.block_nr >= blocks) for one in looked]
         answer = next((one for one in results if one.ring.block_nr >= blocks), None)
         self.judgement.append(self.judged(ring, least, found, answer))
         return results, answer
@@ -85,7 +88,7 @@ class Search:
         where = f"at phase {least.phase} of {len(self.model.phases(ring))}"
         said = f"{found} {where}, and there `ringtap replay` judged: {'; '.join(sides)}"
         if answer is None or answer.ring.block_nr != blocks:
-            return f"the least ring that never freezes has {blocks} blocks; {said}"
+            return f"the smallest ring that never freezes has {blocks} blocks; {said}"
         return said
 
     def side(self, ring: Ring, least: Least, count: int) -> str:

@@ -19,8 +19,9 @@ import struct
 import sys
 import zlib
 from dataclasses import dataclass
+from itertools import count
 from pathlib import Path
-from typing import BinaryIO, Iterator, NamedTuple
+from typing import BinaryIO, Callable, Iterator, NamedTuple
 
 from .files import NANOSECONDS, Fault, Setup
 
@@ -51,6 +52,15 @@ class Frame(NamedTuple):
     time: int  # nanoseconds
     wire: int  # length on the wire, bytes
     data: bytes  # what was captured
+
+
+class Run(NamedTuple):
+    """Frames of a capture, one after another, in columns: times, lengths on the wire, and what was
+    captured."""
+
+    times: list[int]
+    wires: list[int]
+    frames: list[bytes]
 
 
 class Interface(NamedTuple):
@@ -228,10 +238,21 @@ class CaptureStream:
         self.drops: int | None = None  # those that a pcapng's statistics tell, of all interfaces
 
     def __iter__(self) -> Iterator[Frame]:
+        yield from self.read(pcap_frames, lambda stream: PcapngFrames(stream).frames())
+
+    def runs(self, most: int) -> Iterator[Run]:
+        """The frames in runs, each of some that have so many bytes or little more, or fewer."""
+        yield from self.read(
+            lambda stream: pcap_runs(stream, most),
+            lambda stream: runs_of(PcapngFrames(stream).frames(), most),
+        )
+
+    def read(self, pcap: Callable, pcapng: Callable) -> Iterator:
+        """What one of two readers makes of the capture; the file is closed at the end."""
         self.pieces.has(len(PCAPNG_MAGIC))
         is_next = self.pieces.data.startswith(PCAPNG_MAGIC)
         try:
-            yield from PcapngFrames(self).frames() if is_next else pcap_frames(self)
+            yield from pcapng(self) if is_next else pcap(self)
         except RefusedHeader as fault:
             raise self.explained(fault) from None
         finally:
@@ -259,22 +280,55 @@ class CaptureStream:
 
 def pcap_frames(stream: CaptureStream) -> Iterator[Frame]:
     """The frames of a pcap file of version 2.4."""
+    number = count()
+    for run in pcap_runs(stream, PIECE):
+        yield from map(Frame, number, *run)
+
+
+def pcap_runs(stream: CaptureStream, most: int) -> Iterator[Run]:
+    """The same in runs, each of one frame at least, and of no more once it has so many bytes."""
     pieces = stream.pieces
     order, unit = pcap_header(stream)
     record = struct.Struct(order + "IIII")
-    index = 0
     while pieces.has(RECORD_HEADER):
-        seconds, fraction, captured, original = record.unpack_from(pieces.data, pieces.at)
+        captured = record.unpack_from(pieces.data, pieces.at)[2]
         if captured > LARGEST_RECORD:
             return stream.stop(f"bad_length {pieces.place}")
         if not pieces.has(RECORD_HEADER + captured):
             break
-        first = pieces.at + RECORD_HEADER
-        pieces.at = first + captured
-        time = seconds * NANOSECONDS + min(fraction * unit, NANOSECONDS - 1)
-        yield Frame(index, time, max(captured, original), pieces.data[first : pieces.at])
-        index += 1
+        yield run_in_memory(pieces, record, unit, most)
     stream.stop(place=pieces.place if pieces.left else None)
+
+
+def run_in_memory(pieces: Pieces, record: struct.Struct, unit: int, most: int) -> Run:
+    """The frames whose records are in memory; the present place goes on behind them."""
+    data, at, unpack = pieces.data, pieces.at, record.unpack_from
+    size, limit, most_of_one = len(data), at + most, NANOSECONDS - 1
+    last = size - RECORD_HEADER
+    times, wires, frames = [], [], []
+    while at <= last and at < limit:
+        seconds, fraction, captured, original = unpack(data, at)
+        first = at + RECORD_HEADER
+        end = first + captured
+        if captured > LARGEST_RECORD or end > size:
+            break
+        fraction *= unit  # `min` and `max` would be slower
+        times.append(seconds * NANOSECONDS + (fraction if fraction < most_of_one else most_of_one))
+        wires.append(original if original > captured else captured)
+        frames.append(data[first:end])
+        at = end
+    pieces.at = at
+    return Run(times, wires, frames)
+
+
+def runs_of(frames: Iterator[Frame], most: int) -> Iterator[Run]:
+    """Frames in runs, each of one at least, and of no more once it has so many bytes."""
+    for first in frames:
+        given, size = [first], len(first.data)
+        while size < most and (frame := next(frames, None)):
+            given.append(frame)
+            size += len(frame.data)
+        yield Run(*map(list, list(zip(*given))[1:]))
 
 
 def pcap_header(stream: CaptureStream) -> tuple[str, int]:

@@ -2,19 +2,21 @@
 
 Ticks that do nothing, and reads that find nothing, are left out, as `schedule.py` leaves them out.
 A run is cut at a pause where the reader's own steps make one: they come often enough for all
-blocks, then a due tick, then a step, and no packet meanwhile (the law
+blocks, then a due tick, then a step, and no packet meanwhile (the theorem
 `a_run_may_be_cut_at_a_pause` of ring_laws). Where none comes before a piece is full it is cut where
 it is, and the next piece has a beginning that brings a new ring to the state there. Times are
 nanoseconds from the first frame on.
 """
 from __future__ import annotations
 
+from bisect import bisect_left, bisect_right
 from collections import deque
 from dataclasses import dataclass
+from itertools import accumulate
 from typing import Callable
 
 from .clock import MILLISECOND, NEVER, Beat, Pace, steps_of
-from .cut_pieces import Piece, Place, begun, joined
+from .cut_pieces import FEED_LINE, Piece, Place, begun, joined
 from .cut_rings import BlockRing, Ring, SlotRing
 from .files import NANOSECONDS, Fault
 from .model import Reader, Timer
@@ -122,22 +124,55 @@ class Member:
 
     # ---- what happens
 
-    def give(self, time: int, need: int, record: bytes) -> None:
-        """A packet comes."""
-        self.advance(time, time)
-        piece, ring = self.piece, self.ring
-        if piece.bytes - self.start[2] >= self.limits.bytes:
-            self.cut("state")
-            piece, ring = self.piece, self.ring
-        if ring.fits(need):
-            is_handed = piece.feed(need, record)
+    def give(self, times: list[int], needs: list[int], records: list[bytes]) -> None:
+        """Packets come, by rising times."""
+        sums = list(accumulate(needs, initial=0))
+        sizes = list(accumulate(map(len, records), initial=0))
+        at = 0
+        while at < len(times):
+            time = times[at]
+            self.advance(time, time)
+            if self.piece.bytes - self.start[2] >= self.limits.bytes:
+                self.cut("state")
+            self.cut_long_text()
+            end = self.alike(times, sums, sizes, at)
+            if end > at:
+                self.piece.feed_all(needs[at:end], records[at:end], sizes[end] - sizes[at])
+            else:
+                self.give_one(time, needs[at], records[at])
+                end = at + 1
+            at, self.last = end, times[end - 1]
+
+    def alike(self, times: list[int], sums: list[int], sizes: list[int], first: int) -> int:
+        """Up to which packet all go into the open block, or all are dropped, and nothing happens
+        between them; `first` where even that one is another."""
+        ring, piece, end = self.ring, self.piece, len(times)
+        if isinstance(ring, BlockRing) and ring.fits(sums[first + 1] - sums[first]):
+            end = bisect_right(sums, sums[first] + ring.room - ring.used) - 1
+        elif not ring.is_full:
+            return first
+        # A tick comes before a packet of its moment; reads and statistics after it.
+        end = bisect_left(times, self.tick, first, end)
+        end = bisect_right(times, min(self.back[0] if self.back else NEVER, self.stats), first, end)
+        left = self.limits.bytes - (piece.bytes - self.start[2])
+        end = min(end, bisect_left(sizes, sizes[first] + left, first))
+        lines = (self.limits.text - (piece.text - self.start[3])) // len(FEED_LINE)
+        return min(end, first + lines + 1)
+
+    def give_one(self, time: int, need: int, record: bytes) -> None:
+        """A packet comes that isn't like the others."""
+        if self.ring.fits(need):
+            is_handed = self.piece.feed(need, record)
         else:
             self.set_clock(time)
-            is_handed = piece.feed(need, record)
+            is_handed = self.piece.feed(need, record)
             self.aim()
-        self.last = time
         if is_handed:
             self.hand_over(time)
+
+    def cut_long_text(self) -> None:
+        if self.piece.text - self.start[3] >= self.limits.text:
+            self.cut("state")
 
     def set_clock(self, time: int) -> None:
         """The last tick before a packet, which isn't due: a block that it opens has a deadline."""
@@ -167,8 +202,7 @@ class Member:
                 self.stats = self.beat.moment(self.stats_number)
             else:
                 return
-            if self.piece.text - self.start[3] >= self.limits.text:
-                self.cut("state")
+            self.cut_long_text()
 
     def take_tick(self, until: int) -> None:
         """The next due tick; of those that do nothing the last one alone."""

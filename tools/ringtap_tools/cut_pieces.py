@@ -1,9 +1,9 @@
 """A piece of a long run: what is fed to one member and when, and the beginning that brings a new
 ring to the state in which the piece before it left the member's ring.
 
-A beginning is that of the law `a_new_ring_is_brought_to_the_state_of_any_ring` of ring_laws, step
-by step; after a pause it is that of `a_run_may_be_cut_at_a_pause`. The packets that it makes are
-`FILLER`.
+A beginning is that of the theorem `a_new_ring_is_brought_to_the_state_of_any_ring` of ring_laws,
+step by step; after a pause it is that of `a_run_may_be_cut_at_a_pause`. The packets that it makes
+are `FILLER`.
 """
 from __future__ import annotations
 
@@ -15,8 +15,9 @@ from .cut_rings import BlockRing, Counts, Ring
 from .files import Fault
 from .model import need_of
 
-FEED, READ, STATS = -1, -2, -3  # lines of a schedule; a tick is its label
-WORDS = {FEED: "feed 0\n", READ: "read 0\n", STATS: "stats 0\n"}
+# Lines of a schedule: a tick is its label, and below STATS stand as many feeds.
+READ, STATS = -1, -2
+FEED_LINE, READ_LINE, STATS_LINE = "feed 0\n", "read 0\n", "stats 0\n"
 FILLER = bytes(60)
 FILE_HEADER = struct.pack("<IHHiIII", 0xA1B23C4D, 2, 4, 0, 0, LARGEST_RECORD, ETHERNET)
 RECORD = struct.Struct("<IIII")
@@ -52,9 +53,18 @@ class Piece:
         self.records.append(record)
         self.needs.append(need)
         self.bytes += len(record)
-        self.text += len(WORDS[FEED])
-        self.lines.append(FEED)
+        self.text += len(FEED_LINE)
+        self.lines.append(STATS - 1)
         return self.ring.put(need)
+
+    def feed_all(self, needs: list[int], records: list[bytes], size: int) -> None:
+        """Packets come whose records have so many bytes, and nothing happens between them."""
+        self.records += records
+        self.needs += needs
+        self.bytes += size
+        self.text += len(FEED_LINE) * len(needs)
+        self.lines.append(STATS - len(needs))
+        self.ring.put_all(needs)
 
     def tick(self, label: int) -> bool:
         """The clock comes to a moment of the piece's own; whether a block is handed over."""
@@ -64,12 +74,12 @@ class Piece:
 
     def read(self) -> None:
         self.lines.append(READ)
-        self.text += len(WORDS[READ])
+        self.text += len(READ_LINE)
         self.ring.read()
 
     def stats(self) -> None:
         self.lines.append(STATS)
-        self.text += len(WORDS[STATS])
+        self.text += len(STATS_LINE)
         now = self.ring.counts()
         self.stretches.append(less(now, self.taken))
         self.taken = now
@@ -80,10 +90,15 @@ class Piece:
         return [*self.stretches, less(self.ring.counts(), self.taken)]
 
     def schedule(self) -> str:
-        return "".join([WORDS[line] if line < 0 else f"tick {line}\n" for line in self.lines])
+        return "".join(map(line_words, self.lines))
 
-    def capture(self) -> bytes:
-        return b"".join([FILE_HEADER, *self.records])
+
+def line_words(line: int) -> str:
+    if line >= 0:
+        return f"tick {line}\n"
+    if line < STATS:
+        return FEED_LINE * (STATS - line)
+    return READ_LINE if line == READ else STATS_LINE
 
 
 def less(counts: Counts, others: Counts) -> Counts:
@@ -171,11 +186,13 @@ def begin_slots(piece: Piece, old: Ring) -> None:
 
 def joined(start: Piece, piece: Piece, first_record: int, first_line: int) -> None:
     """Adds to a piece what another has from a place on."""
-    shift = piece.shift - start.shift
-    records = zip(piece.needs[first_record:], piece.records[first_record:])
+    shift, at = piece.shift - start.shift, first_record
     for line in piece.lines[first_line:]:
-        if line == FEED:
-            start.feed(*next(records))
+        if line < STATS:
+            end = at + STATS - line
+            records = piece.records[at:end]
+            start.feed_all(piece.needs[at:end], records, sum(map(len, records)))
+            at = end
         elif line == READ:
             start.read()
         elif line == STATS:

@@ -1,6 +1,6 @@
 """A ring's state beside the pieces of a long run: all that the rest of the run depends on.
 
-What that is says the law `rings_alike_go_on_alike` of ring_laws, and for slots the law
+What that is says the theorem `rings_alike_go_on_alike` of ring_laws, and for slots the
 `rings_of_slots_alike_go_on_alike` of replay_laws: the packets of the open block, how many blocks
 the reader has, how far off the deadline is, and whether packets were lost since the statistics were
 last taken. The state is worked out here and not proved; so each piece is compared with the program.
@@ -38,8 +38,22 @@ class SlotRing:
         self.drop()
         return False
 
-    def drop(self) -> None:
-        self.drops += 1
+    @property
+    def is_full(self) -> bool:
+        """Whether each packet is dropped that comes before the reader's next step."""
+        return self.out >= self.blocks
+
+    def put_all(self, needs: list[int]) -> None:
+        """Packets come, between which nothing else happens."""
+        if self.is_full:
+            self.packets += len(needs)
+            self.drop(len(needs))
+        else:
+            for need in needs:
+                self.put(need)
+
+    def drop(self, count: int = 1) -> None:
+        self.drops += count
         self.is_losing = True
 
     def read(self) -> None:
@@ -75,6 +89,19 @@ class BlockRing(SlotRing):
 
     def fits(self, need: int) -> bool:
         return not self.is_frozen and self.used + need <= self.room
+
+    @property
+    def is_full(self) -> bool:
+        return self.is_frozen and self.out >= self.blocks
+
+    def put_all(self, needs: list[int]) -> None:
+        whole = sum(needs)
+        if self.fits(whole):
+            self.packets += len(needs)
+            self.used += whole
+            self.inside += len(needs)
+        else:
+            super().put_all(needs)
 
     def put(self, need: int) -> bool:
         self.packets += 1

@@ -4,19 +4,21 @@ A capture is read as a stream and cut into parts. The program runs each of them 
 keeps all, with the setup's filter, and its dump says which frames pass, how many bytes of each are
 offered, and its flow hash. How a mode deals them out is counted here, by the rules of
 docs/reference.md, section 9. Without rollover each member stands alone, and what it is given
-doesn't depend on the rings (the law `members_stand_alone_without_rollover` of replay_laws).
+doesn't depend on the rings (the theorem `members_stand_alone_without_rollover` of replay_laws).
 """
 from __future__ import annotations
 
 import os
 import struct
+from concurrent.futures import Future, ThreadPoolExecutor
 from dataclasses import dataclass
 from heapq import merge
+from itertools import accumulate, count, islice
 from pathlib import Path
 from typing import Iterator, NamedTuple
 
 from .arrivals import DESCRIPTOR, LARGEST_BLOCK, PACKET_HEADER, ROOMY_BLOCKS
-from .captures import CaptureStream, Frame, say_end
+from .captures import CaptureStream, Run, say_end
 from .cut_pieces import FILE_HEADER, RECORD, record_of
 from .files import MOST_MEMBERS, NANOSECONDS, Fault, Setup
 from .runs import Report, Room, run_program
@@ -30,24 +32,33 @@ MOST_CPUS = 8  # of a setup that the program takes
 # Of a block from byte 12 on: packets, the first one's place, bytes. Of a packet: the next one's
 # place, the time, how many bytes it has, its status and its flow hash.
 BLOCK, PACKET = struct.Struct("<III"), struct.Struct("<I4xII4xI4xI")
+MERGED = 16_384  # frames of several CPUs that are given at once
 
 
-class Passed(NamedTuple):
-    """A packet that passes."""
+class Found(NamedTuple):
+    """The packets of a dump, in columns: the numbers of their frames, the bytes that are offered,
+    their statuses and hashes."""
 
-    snap: int  # bytes that are offered
-    hash: int
-    record: bytes  # what a member's capture has of it
+    numbers: list[int]
+    snaps: list[int]
+    statuses: list[int]
+    hashes: list[int]
 
 
-class Arrival(NamedTuple):
-    """A frame that is fed."""
+class Batch(NamedTuple):
+    """Frames that are fed one after another, in columns: of all of them when they come, their CPUs,
+    their lengths on the wire and whether they arrive, and of those that pass the filter their
+    places in these columns, the bytes that are offered, the hashes, and the records that a member's
+    capture has."""
 
-    time: int  # nanoseconds
-    cpu: int
-    wire: int
-    arrives: bool
-    passed: Passed | None
+    times: list[int]  # nanoseconds
+    cpus: list[int]
+    wires: list[int]
+    arrives: list[bool]
+    places: list[int]
+    snaps: list[int]
+    hashes: list[int]
+    records: list[bytes]
 
 
 @dataclass
@@ -65,8 +76,15 @@ class PieceRoom(Room):
 
     def __init__(self, setup: Setup, program: Path) -> None:
         super().__init__(setup, program, has_captures=False)
+        # What the program runs beside the tool: parts of captures, and pieces.
+        self.looks, self.pieces = ThreadPoolExecutor(1), ThreadPoolExecutor(1)
         for name in ("nowhere.0.pcap", "all.0.pcap"):
             (self.folder / name).symlink_to(os.devnull)
+
+    def __exit__(self, *_: object) -> None:
+        for pool in (self.looks, self.pieces):
+            pool.shutdown(cancel_futures=True)
+        super().__exit__()
 
     def check(self) -> None:
         """The program's word on the setup, of which it sees at most its own number of CPUs and
@@ -82,13 +100,17 @@ class PieceRoom(Room):
         if done.returncode:
             raise Fault(self.refused(done, "replay", "setup", "setup"))
 
-    def run(self, lines: list[str], capture: bytes, schedule: str, command: str) -> Report:
-        """A run of one member over a capture of one CPU; its files go again."""
-        files = [self.folder / name for name in ("piece", "piece.pcap", "piece.sched")]
-        files[0].write_text("\n".join([*lines, "cpu piece.pcap", ""]))
-        files[1].write_bytes(capture)
+    def run(
+        self, name: str, lines: list[str], capture: list[bytes], schedule: str, command: str
+    ) -> Report:
+        """A run of one member over a capture of one CPU, whose files have a name of their own and
+        go again."""
+        files = [self.folder / f"{name}{end}" for end in ("", ".pcap", ".sched")]
+        files[0].write_text("\n".join([*lines, f"cpu {name}.pcap", ""]))
+        with open(files[1], "wb") as file:
+            file.writelines([FILE_HEADER, *capture])
         files[2].write_text(schedule)
-        report = self.replay("piece", "piece.sched", command)
+        report = self.replay(name, f"{name}.sched", command)
         for path in files:
             path.unlink()
         return report
@@ -110,72 +132,87 @@ class CpuStream:
         self.latest = 0
         self.size = path.stat().st_size
 
-    def __iter__(self) -> Iterator[Arrival]:
-        frames: list[Frame] = []
-        size = 0
-        for frame in self.stream:
-            frames.append(frame)
-            size += len(frame.data) + RECORD.size
-            if size >= self.part or len(frames) >= MOST_FRAMES:
-                yield from self.arrivals(frames)
-                frames, size = [], 0
-        if frames:
-            yield from self.arrivals(frames)
+    def __iter__(self) -> Iterator[Batch]:
+        """The program looks at a part while the one before it is given."""
+        before: tuple[Run, Future] | None = None
+        for part in self.parts():
+            asked = self.room.looks.submit(self.seen, part)
+            if before:
+                yield self.batch(before[0], *before[1].result())
+            before = part, asked
+        if before:
+            yield self.batch(before[0], *before[1].result())
         self.count.end = self.stream.end
         say_end(self.stream.path, self.stream.end, self.count.frames)
+
+    def parts(self) -> Iterator[Run]:
+        part, size = Run([], [], []), 0
+        for run in self.stream.runs(self.part):
+            for column, more in zip(part, run):
+                column += more
+            size += sum(map(len, run.frames)) + RECORD.size * len(run.frames)
+            if size >= self.part or len(part.frames) >= MOST_FRAMES:
+                yield part
+                part, size = Run([], [], []), 0
+        if part.frames:
+            yield part
 
     def place(self) -> int:
         """How many bytes of the file were read, of gzip packed ones."""
         file = self.stream.pieces.file
         return file.file.tell() if not file.closed else self.size
 
-    def arrivals(self, frames: list[Frame]) -> Iterator[Arrival]:
-        """A part's frames, of which the program says what passes."""
-        seen = self.seen(frames)
-        cpu, latest = self.cpu, self.latest
-        for at, frame in enumerate(frames):
-            latest = max(latest, frame.time)
-            one, data = seen.get(at), frame.data
-            passed = None
-            if one:
-                snap, status, flow_hash = one
-                passed = Passed(snap, flow_hash, self.record(frame, snap, status))
-            yield Arrival(latest, cpu, frame.wire, len(data) >= LEAST_FRAME, passed)
-        self.latest = latest
+    def seen(self, part: Run) -> tuple[list[bytes], Found]:
+        """The records of a part, each with its number in place of its time, and the packets that
+        pass."""
+        pack, lengths = RECORD.pack, list(map(len, part.frames))
+        records = [
+            pack(0, number, length, wire) + frame
+            for number, length, wire, frame in zip(count(), lengths, part.wires, part.frames)
+        ]
+        lines = [*self.lines, *roomy(sum(lengths) + (PACKET_HEADER + 7) * len(lengths))]
+        report = self.room.run(f"part{self.cpu}", lines, records, "", "replay")
+        found = packets_of(self.room.folder / "all.0.blk")
+        arrived = len(lengths) - sum(length < LEAST_FRAME for length in lengths)
+        told = report.cpus[0].frames, report.cpus[0].arrivals, report.kept, report.drops
+        if told != (len(lengths), arrived, len(found.snaps), 0):
+            raise Fault(
+                f"{self.stream.path}: the program printed {told} (frames, arrivals, kept, drops)"
+                f" of a part of {len(lengths)} frames, {arrived} arrivals, {len(found.snaps)}"
+                " packets"
+            )
+        self.count.frames += len(lengths)
+        self.count.arrivals += arrived
+        self.count.passed += len(found.snaps)
+        return records, found
 
-    def record(self, frame: Frame, snap: int, status: int) -> bytes:
+    def batch(self, part: Run, records: list[bytes], found: Found) -> Batch:
+        """A part's frames, of which the program said what passes."""
+        times = list(accumulate(part.times, max, initial=self.latest))[1:]
+        self.latest = times[-1]
+        lengths = sent = list(map(len, part.frames))
+        places, snaps, statuses, hashes = found
+        if len(places) < len(lengths):
+            records = [records[place] for place in places]
+            sent = [lengths[place] for place in places]
+        kept = [snap + TAG if status & TAGGED else snap for snap, status in zip(snaps, statuses)]
+        if kept != sent:
+            records = list(map(self.cut, records, kept, sent, snaps))
+        arrives = [length >= LEAST_FRAME for length in lengths]
+        cpus = [self.cpu] * len(times)
+        return Batch(times, cpus, part.wires, arrives, places, snaps, hashes, records)
+
+    def cut(self, record: bytes, kept: int, length: int, snap: int) -> bytes:
         """A packet as a frame that is offered with as many bytes again, without a filter."""
-        kept = snap + (TAG if status & TAGGED else 0)
-        if kept == len(frame.data):
-            return record_of(frame.wire, frame.data)
+        if kept == length:
+            return record
         if snap < LEAST_FRAME:
             raise Fault(
                 f"{self.room.setup.path}: its filter keeps {snap} bytes of a packet; in pieces one"
                 f" has to have at least {LEAST_FRAME}"
             )
-        return record_of(frame.wire, frame.data[:kept])
-
-    def seen(self, frames: list[Frame]) -> dict[int, tuple[int, int, int]]:
-        """What passes of a part, by the numbers of its frames: how many bytes are offered, the
-        packet's status and its flow hash."""
-        parts, needed = [FILE_HEADER], 0
-        for at, frame in enumerate(frames):
-            parts += (RECORD.pack(0, at, len(frame.data), frame.wire), frame.data)
-            needed += (PACKET_HEADER + len(frame.data) + 7) // 8 * 8
-        lines = [*self.lines, *roomy(needed)]
-        report = self.room.run(lines, b"".join(parts), "", "replay")
-        arrived = sum(len(frame.data) >= LEAST_FRAME for frame in frames)
-        found = packets_of(self.room.folder / "all.0.blk")
-        told = report.cpus[0].frames, report.cpus[0].arrivals, report.kept, report.drops
-        if told != (len(frames), arrived, len(found), 0):
-            raise Fault(
-                f"{self.stream.path}: the program printed {told} (frames, arrivals, kept, drops)"
-                f" of a part of {len(frames)} frames, {arrived} arrivals, {len(found)} packets"
-            )
-        self.count.frames += len(frames)
-        self.count.arrivals += arrived
-        self.count.passed += len(found)
-        return found
+        wire = RECORD.unpack_from(record)[3]
+        return record_of(wire, record[RECORD.size : RECORD.size + kept])
 
 
 def roomy(needed: int) -> list[str]:
@@ -188,28 +225,44 @@ def roomy(needed: int) -> list[str]:
     return [f"{word} {number}" for word, number in request.items()]
 
 
-def packets_of(path: Path) -> dict[int, tuple[int, int, int]]:
-    """The packets of a dump, by the nanoseconds of their times."""
+def packets_of(path: Path) -> Found:
+    """The packets of a dump, whose times have the numbers of their frames."""
     data = path.read_bytes()
     path.unlink()
-    found, block, unpack = {}, 0, PACKET.unpack_from
+    found, block, unpack = Found([], [], [], []), 0, PACKET.unpack_from
+    numbers, snaps, statuses, hashes = found
     while block < len(data):
-        count, place, size = BLOCK.unpack_from(data, block + 12)
+        packets, place, size = BLOCK.unpack_from(data, block + 12)
         place += block
-        for _ in range(count):
+        for _ in range(packets):
             step, number, snap, status, flow_hash = unpack(data, place)
-            found[number] = snap, status, flow_hash
+            numbers.append(number)
+            snaps.append(snap)
+            statuses.append(status)
+            hashes.append(flow_hash)
             place += step
         block += size
     return found
 
 
-def homes_of(setup: Setup) -> list[int]:
-    """The member of each CPU, where the mode goes by CPUs."""
-    members = setup.number("members", 1)
-    if setup.word("mode", "cpu") == "qm":
-        return [cpu.queue % members for cpu in setup.cpus]
-    return [cpu % members for cpu in range(len(setup.cpus))]
+class Dealer:
+    """Which member each packet goes to, by the mode of the setup."""
+
+    def __init__(self, setup: Setup) -> None:
+        self.members, self.mode = setup.number("members", 1), setup.word("mode", "cpu")
+        queues = [cpu.queue for cpu in setup.cpus]
+        of_cpus = queues if self.mode == "qm" else range(len(queues))
+        self.homes_of_cpus = [number % self.members for number in of_cpus]
+        self.ticket = 0  # of the next arrival
+
+    def homes(self, batch: Batch) -> list[int]:
+        """The member of each packet that passes."""
+        if self.mode == "hash":
+            return [value % self.members for value in batch.hashes]
+        if self.mode == "lb":
+            *tickets, self.ticket = accumulate(batch.arrives, initial=self.ticket)
+            return [tickets[place] % self.members for place in batch.places]
+        return [self.homes_of_cpus[batch.cpus[place]] for place in batch.places]
 
 
 class Clock:
@@ -222,16 +275,36 @@ class Clock:
         self.first: int | None = None
         self.sent = 0
 
-    def time(self, time: int, wire: int) -> int:
+    def times(self, batch: Batch) -> list[int]:
         if self.first is None:
-            self.first = time
+            self.first = batch.times[0]
+        first, many, speed = self.first, len(batch.times), self.speed
         if self.per_unit is None:
-            return (time - self.first) * self.speed.denominator // self.speed.numerator
-        now = int(self.sent * self.per_unit)
-        self.sent += 8 * wire if self.bits else 1
-        return now
+            if speed == 1:
+                return [time - first for time in batch.times]
+            return [(time - first) * speed.denominator // speed.numerator for time in batch.times]
+        units = [8 * wire for wire in batch.wires] if self.bits else [1] * many
+        *begins, self.sent = accumulate(units, initial=self.sent)
+        return [int(sent * self.per_unit) for sent in begins]
 
 
-def fed(streams: list[CpuStream]) -> Iterator[Arrival]:
+def fed(streams: list[CpuStream]) -> Iterator[Batch]:
     """The frames of all CPUs by their times, at one time those of the lower CPU first."""
-    return iter(streams[0]) if len(streams) == 1 else merge(*streams)
+    if len(streams) == 1:
+        yield from streams[0]
+        return
+    rows = merge(*map(rows_of, streams))
+    while merged := list(islice(rows, MERGED)):
+        times, cpus, wires, arrives, passed = map(list, zip(*merged))
+        places = [place for place, one in enumerate(passed) if one]
+        columns = zip(*filter(None, passed)) if places else [[]] * 3
+        yield Batch(times, cpus, wires, arrives, places, *map(list, columns))
+
+
+def rows_of(stream: CpuStream) -> Iterator[tuple]:
+    """A CPU's frames one by one, each with what is offered of it."""
+    for batch in stream:
+        passed: list[tuple | None] = [None] * len(batch.times)
+        for place, *one in zip(batch.places, batch.snaps, batch.hashes, batch.records):
+            passed[place] = tuple(one)
+        yield from zip(batch.times, batch.cpus, batch.wires, batch.arrives, passed)

@@ -7,33 +7,42 @@ second time, with two rings more before it, and has to give the same. The reader
 those of `schedule.py`.
 
 Groups that roll over, and reassembly, are refused: their members, and their pieces, don't stand
-alone.
+alone. With --smallest ringsize is asked for the smallest ring that never freezes; a capture of more
+than 32 MiB is given to it in parts.
 """
 from __future__ import annotations
 
 import argparse
 import sys
 import time
-from dataclasses import dataclass, field
+from collections import deque
+from concurrent.futures import Future
+from dataclasses import asdict, dataclass, field
+from itertools import compress
 from pathlib import Path
 
 from .cut_members import Cut, Limits, Member, Shape
 from .cut_pieces import Piece, less
 from .cut_rings import Counts
-from .deals import Clock, CpuStream, PieceRoom, fed, homes_of
+from .deals import Batch, Clock, CpuStream, Dealer, PieceRoom, fed
+from .file_parts import PartsAsker
 from .files import Fault, Setup, read_setup
 from .model import Timer, need_of, room_of
+from .ringsizes import NotAsked, Sized, ringsize_of
 from .runs import Report, add_program, program_of
 from .schedule import DEFAULT_TIMEOUT, Pace, add_pace, pace_of
 from .words import ToolParser, add_json, print_json
 
 MEBIBYTE = 1_048_576
 LEAST_PIECE, LARGEST_PIECE = 1024, 8 * MEBIBYTE  # bytes of a capture
+MOST_WAITING = 2  # pieces that were made and aren't added up yet
 WAYS = {
     "new": "at the run's begin",
     "pause": "at a pause",
     "state": "with a beginning that brings a new ring to the state there",
 }
+
+Printed = tuple[list[Counts], int]  # the counts of each stretch of a piece, and its blocks
 
 
 @dataclass
@@ -82,12 +91,15 @@ class LongRun:
         self.command = "replay2" if args.replay2 else "replay"
         self.ways = dict.fromkeys(WAYS, 0)
         self.again = 0  # pieces that were run a second time
+        self.waiting: deque[tuple[int, Cut, Future]] = deque()  # pieces that are being run
+        self.dealer = Dealer(setup)
         self.limits = Limits(args.piece)
         self.streams = [
             CpuStream(room, cpu, path, max(LEAST_PIECE, 2 * args.piece // (1 + len(setup.cpus))))
             for cpu, path in enumerate(setup.capture_paths())
         ]
         self.shape, self.lines = shape_of(setup, args.replay2)
+        self.needs = Needs(self.shape.room)
         timeout = self.shape.timeout
         every = timeout if pace.tick is None else pace.tick
         self.timer = Timer(every if timeout else 0, timeout, pace.phase)
@@ -102,14 +114,24 @@ class LongRun:
         return Member(self.shape, self.timer, self.pace, self.limits, run)
 
     def run(self, member: int, cut: Cut) -> None:
-        """Runs a piece, which the tool's own state of the ring has to agree with, and adds up what
-        it printed."""
-        piece = cut.piece
-        stretches, blocks = self.printed(piece)
+        """Has a piece run while the next one is made."""
+        self.waiting.append((member, cut, self.room.pieces.submit(self.run_both, cut)))
+        while len(self.waiting) > MOST_WAITING:
+            self.add_up()
+
+    def run_both(self, cut: Cut) -> tuple[Printed, Printed | None]:
+        """What the program prints of a piece, and of the same with an overlap before it."""
+        return self.printed(cut.piece), self.printed(cut.again) if cut.again else None
+
+    def add_up(self) -> None:
+        """Adds up what the program printed of the piece that has waited longest. The tool's own
+        state of the ring has to agree with it."""
+        member, cut, asked = self.waiting.popleft()
+        piece, ((stretches, blocks), again) = cut.piece, asked.result()
         self.ways[cut.way] += 1
-        if cut.again:
+        if again:
             self.again += 1
-            others, other_blocks = self.printed(cut.again)
+            others, other_blocks = again
             mine = [less(stretches[0], piece.base), *stretches[1:]], blocks - piece.base_blocks
             if (others[cut.before :], other_blocks - cut.blocks) != mine:
                 raise Fault(
@@ -119,9 +141,11 @@ class LongRun:
         # The open block at the end of a piece is in the next one again.
         self.counts[member].add(piece, stretches, piece.ring.retired)
 
-    def printed(self, piece: Piece) -> tuple[list[Counts], int]:
+    def printed(self, piece: Piece) -> Printed:
         """What the program prints of a piece: the counts and the blocks."""
-        report = self.room.run(self.lines, piece.capture(), piece.schedule(), self.command)
+        report = self.room.run(
+            "piece", self.lines, piece.records, piece.schedule(), self.command
+        )
         found = stretches_of(report), report.members[0].blocks
         mine = piece.all_stretches(), piece.ring.printed_blocks()
         if found != mine:
@@ -133,30 +157,45 @@ class LongRun:
 
     def make(self) -> None:
         """The whole run."""
-        clock, end, ticket = Clock(self.pace), 0, 0
-        homes, mode = homes_of(self.setup), self.setup.word("mode", "cpu")
-        members, shape = self.members, self.shape
+        clock, end = Clock(self.pace), 0
         progress = Progress(self.streams)
-        needs: dict[int, int] = {}
-        for arrival in fed(self.streams):
-            end = clock.time(arrival.time, arrival.wire)
-            passed = arrival.passed
-            if passed:
-                if mode == "hash":
-                    home = passed.hash % len(members)
-                else:
-                    home = ticket % len(members) if mode == "lb" else homes[arrival.cpu]
-                need = needs.get(passed.snap)
-                if need is None:
-                    need = needs[passed.snap] = need_of(passed.snap, shape.room)
-                members[home].give(end, need, passed.record)
-            ticket += arrival.arrives
-            progress.step()
-        for member, count in zip(members, self.counts):
+        for batch in fed(self.streams):
+            times = clock.times(batch)
+            end = times[-1]
+            self.deal(batch, times)
+            progress.show("")
+        for member in self.members:
             member.advance(end, end + 1)
             member.end()
+        while self.waiting:
+            self.add_up()
+        for member, count in zip(self.members, self.counts):
             count.blocks += member.ring.printed_blocks() - member.ring.retired
         progress.finish()
+
+    def deal(self, batch: Batch, times: list[int]) -> None:
+        """Gives each member its packets."""
+        homes = self.dealer.homes(batch)
+        if len(batch.places) < len(times):
+            times = [times[place] for place in batch.places]
+        columns = times, list(map(self.needs.__getitem__, batch.snaps)), batch.records
+        chosen = set(homes)
+        for home in chosen:
+            is_mine = [one == home for one in homes] if len(chosen) > 1 else []
+            mine = [list(compress(one, is_mine)) for one in columns] if is_mine else columns
+            self.members[home].give(*mine)
+
+
+class Needs(dict):
+    """How many bytes of a block a packet takes, by how many of its bytes are offered."""
+
+    def __init__(self, room: int) -> None:
+        super().__init__()
+        self.room = room
+
+    def __missing__(self, snap: int) -> int:
+        self[snap] = need_of(snap, self.room)
+        return self[snap]
 
 
 def shape_of(setup: Setup, is_v2: bool) -> tuple[Shape, list[str]]:
@@ -190,19 +229,14 @@ def refuse(setup: Setup) -> None:
 class Progress:
     """How much was read, on standard error where that is a terminal."""
 
-    EVERY = 1024  # frames
-
     def __init__(self, streams: list[CpuStream]) -> None:
-        self.streams, self.begin, self.frames = streams, time.monotonic(), 0
+        self.streams, self.begin = streams, time.monotonic()
         self.whole = sum(stream.size for stream in streams)
-        self.shown = sys.stderr.isatty()
-
-    def step(self) -> None:
-        self.frames += 1
-        if self.shown and self.frames % self.EVERY == 0:
-            self.show("")
+        self.is_shown = sys.stderr.isatty()
 
     def show(self, end: str) -> None:
+        if not self.is_shown:
+            return
         done = sum(stream.place() for stream in self.streams)
         seconds = max(time.monotonic() - self.begin, 0.001)
         told = f"{done / MEBIBYTE:,.0f} of {self.whole / MEBIBYTE:,.0f} MiB"
@@ -210,8 +244,7 @@ class Progress:
         print(f"\r{told}, {rate} ", end=end, file=sys.stderr, flush=True)
 
     def finish(self) -> None:
-        if self.shown:
-            self.show("\n")
+        self.show("\n")
 
 
 def counts_words(counts: Counts) -> str:
@@ -287,22 +320,78 @@ def parser_of() -> ToolParser:
         metavar="N",
         help=f"bytes of a piece, at most {LARGEST_PIECE}, which is the default",
     )
+    parser.add_argument(
+        "--smallest",
+        action="store_true",
+        help="the smallest ring that never freezes too, by ringsize, which looks at every whole"
+        " millisecond of the timer and of the reader's beginning",
+    )
     add_pace(parser)
     add_json(parser)
     add_program(parser)
     return parser
 
 
+def smallest_of(program: Path, room: PieceRoom, pace: Pace, is_v2: bool) -> Sized | str:
+    """The smallest ring by ringsize, or why it has no answer."""
+    try:
+        ringsize = ringsize_of(program)
+        if not ringsize:
+            raise NotAsked("ringsize isn't there")
+        if is_v2:
+            raise NotAsked("ringsize is asked for rings of blocks alone")
+        return PartsAsker(ringsize, room, pace).smallest(PartsProgress().step)
+    except NotAsked as reason:
+        return str(reason)
+
+
+class PartsProgress:
+    """How much ringsize has read, on standard error where that is a terminal."""
+
+    def __init__(self) -> None:
+        self.done = 0
+
+    def step(self, count: int) -> None:
+        self.done += count
+        if sys.stderr.isatty():
+            told = f"\rringsize has read {self.done / MEBIBYTE:,.0f} MiB "
+            print(told, end="", file=sys.stderr, flush=True)
+
+
+def smallest_words(found: Sized | str, setup: Setup) -> str:
+    if isinstance(found, str):
+        return f"no smallest ring: {found}"
+    begin = f"a reader that begins {found.begin} ms after the first frame"
+    return (
+        "the smallest ring that never freezes, at every whole millisecond of the timer and of the"
+        f" reader's beginning: {found.blocks} blocks of {setup.number('block_size')} bytes; so many"
+        f" are needed at phase {found.phase}, for {begin} (by `ringsize`)"
+    )
+
+
 def main(words: list[str]) -> int:
     args = parser_of().parse_args(words)
     setup, pace, program = read_setup(args.setup), pace_of(args), program_of(args.program)
     refuse(setup)
+    smallest: Sized | str | None = None
     with PieceRoom(setup, program) as room:
         room.check()
         run = LongRun(setup, room, pace, args)
         run.make()
+        if args.smallest:
+            smallest = smallest_of(program, room, pace, args.replay2)
     if args.json:
-        print_json(object_of(run))
+        print_json(object_of(run) | smallest_object(smallest))
+        if isinstance(smallest, str):
+            print(f"no smallest ring: {smallest}", file=sys.stderr)
     else:
         print("\n".join([*lines_of(run), "", cuts_words(run)]))
+        if smallest:
+            print(smallest_words(smallest, setup))
     return 0
+
+
+def smallest_object(found: Sized | str | None) -> dict[str, object]:
+    if found is None:
+        return {}
+    return {"smallest": None if isinstance(found, str) else asdict(found)}

@@ -3,7 +3,7 @@ did.
 
 By the tools' own model, for the ring that a setup has: the phases of the timer at which the reader
 as given loses so many; one stop of the reader, begun anywhere; or a reader of so many blocks a
-second. For each it says how long or how fast, and the least ring that would never have frozen.
+second. For each it says how long or how fast, and the smallest ring that would never have frozen.
 """
 from __future__ import annotations
 
@@ -83,7 +83,7 @@ class Readings:
         return found
 
     def blocks(self, pace: Pace, phases: list[int] | None = None) -> int:
-        """The least ring for a reader."""
+        """The smallest ring for a reader."""
         model = self.model.with_pace(pace)
         tried = phases or list(model.phases(self.ring))
         return max(model.least_at(self.ring, phase) for phase in tried)

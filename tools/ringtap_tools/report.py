@@ -28,16 +28,20 @@ HERE = Path(__file__).resolve().parent.parent  # where the commands are
 BINS, FLOWS = 40, 20
 DEFAULT_PAUSE = "100"
 STYLE = """
-:root{color-scheme:light dark;--ink:#222;--page:#fff;--line:#ccc;--soft:#f3f5f7;--link:#0072b2}
+:root{color-scheme:light dark;--ink:#222;--page:#fff;--line:#ccc;--shade:#999;--soft:#f3f5f7;
+--link:#0072b2}
 @media (prefers-color-scheme:dark){:root{--ink:#e6e6e6;--page:#16181b;--line:#444;
---soft:#22262b;--link:#56b4e9}
+--shade:#777;--soft:#22262b;--link:#56b4e9}
 .picture svg{filter:invert(.91) hue-rotate(180deg)}}
 body{font:16px/1.5 system-ui,sans-serif;color:var(--ink);background:var(--page);
 margin:0 auto;max-width:60rem;padding:1rem}
 h1{font-size:1.5rem}h2{font-size:1.2rem;margin-top:2rem}
 .answer{border-left:.3rem solid var(--link);background:var(--soft);padding:.6rem .8rem}
-.picture,.table{overflow-x:auto;margin:1rem 0}
+.picture,.table{overflow-x:auto;margin:1rem 0;
+background:linear-gradient(to left,var(--page) 40%,transparent) right/2.5rem 100% no-repeat local,
+linear-gradient(to left,var(--shade),transparent) right/1rem 100% no-repeat scroll}
 .picture svg{min-width:34rem;max-width:100%;height:auto}
+.picture svg>rect:first-of-type{fill:transparent}
 table{border-collapse:collapse;font-variant-numeric:tabular-nums}
 th,td{padding:.2rem .6rem;border-bottom:1px solid var(--line);text-align:right;white-space:nowrap}
 th{cursor:pointer;background:var(--soft)}th:first-child,td:first-child{text-align:left}
@@ -178,10 +182,19 @@ def answer_words(found: dict) -> str:
     where = ", at every whole millisecond of the timer" if found["is_every_millisecond"] else ""
     does = "never freezes" if found["is_every_millisecond"] else "loses nothing"
     return (
-        f"The least ring that {does}{where}: <b>{least['block_nr']} blocks of"
+        f"The smallest ring that {does}{where}: <b>{least['block_nr']} blocks of"
         f" {least['block_size']:,} bytes</b>, time-out {least['tov'] or DEFAULT_TIMEOUT} ms,"
         f" {kib(least['memory'])} in all."
     )
+
+
+def finder_words(found: dict) -> str:
+    """Who found the answer."""
+    if not found["found_by"]:
+        return "Found by"
+    is_asked = found["found_by"] == ["ringsize"]
+    whose = "<code>ringsize</code>" if is_asked else "the tools' own model"
+    return f"Found by {whose} and judged by"
 
 
 def page_of(title: str, assumed: str, made: dict, pictures: dict[str, str]) -> str:
@@ -205,7 +218,7 @@ def page_of(title: str, assumed: str, made: dict, pictures: dict[str, str]) -> s
         for one in about
     ]
     sizes = [
-        [ring["block_nr"], ring["memory"], ring["fewest"], ring["drops"], ring["phase"]]
+        [ring[name] for name in ("block_nr", "memory", "fewest", "drops", "phase", "freezes")]
         for ring in found["rings"]
     ]
     flows = [
@@ -228,17 +241,17 @@ def page_of(title: str, assumed: str, made: dict, pictures: dict[str, str]) -> s
         + "</p>",
         f"<p>{escape(about_words(about, found['about']['filtered']).capitalize())}.</p>",
         (
-            f"<p>Assumed of the reader: {escape(assumed)}. Found by the tools' own model and judged"
-            " by <code>ringtap replay</code>.</p>"
+            f"<p>Assumed of the reader: {escape(assumed)}. {finder_words(found)}"
+            " <code>ringtap replay</code>.</p>"
         ),
         "<h2>The captures</h2>",
         rows_of(["capture", "frames", "seconds", "cut frames", "drops it tells of"], captures),
         "<h2>What smaller rings lose</h2>",
         (
-            "<p>Packets dropped at the best and at the worst phase of the timer, and that phase in"
-            " milliseconds.</p>"
+            "<p>Packets dropped at the best and at the worst phase of the timer, that phase in"
+            " milliseconds, and how often the ring freezes there.</p>"
         ),
-        rows_of(["blocks", "bytes", "fewest", "most", "worst phase"], sizes),
+        rows_of(["blocks", "bytes", "fewest", "most", "worst phase", "freezes"], sizes),
         f'<div class="picture">{pictures["drops"]}</div>',
         f"<h2>A ring of {shown['block_nr']} blocks over time</h2>",
         (

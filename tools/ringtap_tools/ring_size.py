@@ -1,5 +1,5 @@
-"""Names the least ring that never freezes over some captures, and how to ask tcpdump, dumpcap and
-Suricata for it.
+"""Names the smallest ring that never freezes over some captures, and how to ask tcpdump, dumpcap
+and Suricata for it.
 
 Give the captures of the CPUs, one each, or a setup. A grid of rings is tried: every block size,
 number of blocks, time-out, number of members and mode that is given with each of the others. It
@@ -8,7 +8,7 @@ program ringsize where it is there, which looks at every beginning of the reader
 model of the tool's own; `ringtap replay` then judges where the ring has to be so large: there it
 never freezes, and one block less freezes. With --phases, with rollover and for slots `ringtap
 replay` itself is run at so many phases, the number of blocks being doubled and then halved to the
-least that loses nothing.
+smallest that loses nothing.
 
 The feeds have the captures' own times, or a rate. The memory is that of the blocks of all
 members together. The status is 0 where a ring suffices, 3 where none does, and 4 where the
@@ -291,7 +291,7 @@ def lost_words(result: Result) -> str:
 
 
 def verdict_of(results: list[Result], least: Result | None) -> list[str]:
-    """The least ring that suffices, in words, and the largest of its line that doesn't."""
+    """The smallest ring that suffices, in words, and the largest of its line that doesn't."""
     if least is None:
         best = min(results, key=lambda result: (result.drops, result.ring.memory))
         return [
@@ -304,9 +304,9 @@ def verdict_of(results: list[Result], least: Result | None) -> list[str]:
     line = next(line for line in lines_of(results) if least in line)
     smaller = [result for result in line if result.ring.block_nr < least.ring.block_nr]
     what = (
-        "least ring"
+        "smallest ring"
         if smaller or least.ring.block_nr == LEAST_BLOCKS
-        else "least ring of those tried"
+        else "smallest ring of those tried"
     )
     does = "never freezes" if least.drops_by_phase else "loses nothing"
     said = [
@@ -397,7 +397,7 @@ def drops_picture(results: list[Result], least: Result | None, title: str) -> st
             points.append((result.ring.memory, result.drops, told))
         panels[-1].series.append(Series(series_name(line[0].ring, rings, named), points))
         if least and least in line:
-            panels[-1].mark = (least.ring.memory, 0, f"least: {kib(least.ring.memory)}")
+            panels[-1].mark = (least.ring.memory, 0, f"smallest: {kib(least.ring.memory)}")
     return points_chart(
         "Packets dropped, by the memory of the ring",
         title,
@@ -412,7 +412,7 @@ def packets_picture(rows: list[list[object]], title: str) -> str:
     groups = [f"{row[0]}, {row[1]}" for row in rows]
     layers = [Layer("kept", [row[3] for row in rows]), Layer("dropped", [row[4] for row in rows])]
     return bars_chart(
-        "Packets for each member, at the least ring of each mode that suffices",
+        "Packets for each member, at the smallest ring of each mode that suffices",
         "member, by mode and number of members",
         "packets",
         names,
@@ -553,7 +553,7 @@ def parser_of() -> argparse.ArgumentParser:
         "--output",
         type=Path,
         metavar="FILE",
-        help="saves a setup with the least ring that suffices",
+        help="saves a setup with the smallest ring that suffices",
     )
     parser.add_argument(
         "--pictures",
@@ -654,6 +654,7 @@ class Answer:
     judgement: list[str]  # what the program said of the answer and of its neighbour
     keys: list[str]
     kernel: list[str]  # losses as a kernel rolls over, by the tool's own model
+    finders: list[str]  # ringsize, model; none where the program alone was run
 
 
 def print_words(first: str, answer: Answer) -> None:
@@ -667,7 +668,7 @@ def print_words(first: str, answer: Answer) -> None:
         len({(one.ring.mode, one.ring.members) for one in results}) > 1
         or results[0].ring.members > 1
     ):
-        print("\nat the least ring of each mode that suffices, or else its largest:\n")
+        print("\nat the smallest ring of each mode that suffices, or else its largest:\n")
         print(table(MEMBER_HEADS, answer.rows))
         print("\nthe largest member to the mean one:\n")
         print(table(["mode", "members", "packets", "bytes kept"], evenness_rows(answer.rows)))
@@ -705,6 +706,7 @@ def object_of(pace: Pace, answer: Answer) -> dict[str, object]:
         "rings": rings,
         "least": dict(zip(HEADS, row_of(least))) if least else None,
         "is_every_millisecond": bool(least and least.drops_by_phase),
+        "found_by": answer.finders,
         "members": [dict(zip(names, row)) for row in answer.rows],
         "evenness": [
             {"mode": row[0], "members": row[1], "packets": float(row[2]), "bytes": float(row[3])}
@@ -802,7 +804,10 @@ def found(
     kernel, rows, asked = kernel_words(model, results), member_rows(trials, results), []
     if least and not args.replay2:
         asked = advice_of(finder, trials, model, least.ring, is_reserved)
-    return Answer(results, least, rows, asked, fed, filtered, said, search.key_words, kernel)
+    finders = sorted(search.finders)
+    return Answer(
+        results, least, rows, asked, fed, filtered, said, search.key_words, kernel, finders
+    )
 
 
 def explained(

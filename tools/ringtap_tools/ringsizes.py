@@ -1,4 +1,4 @@
-"""Asks ringsize, a program whose answer is proved, for the least ring that never freezes at any
+"""Asks ringsize, a program whose answer is proved, for the smallest ring that never freezes at any
 phase of the timer and any beginning of the reader, each to the whole millisecond.
 
 What it is asked is a setup and a reader's text (docs/reference.md, section 13). A reader that has
@@ -24,6 +24,7 @@ from .trials import Ring, Trials, changes_of
 
 GROUP_LINE = re.compile(r"group (?:blocks|slots) (\d+) phase (\d+) from (\d+)(?: beyond)?")
 NO_ANSWER = re.compile(r"(?:setup|reader): .* has no answer yet")
+ASKED = "`ringsize` found it"  # so begin the words where it was asked
 LONG = 5  # seconds from which on it is said how long a search takes
 
 
@@ -33,7 +34,7 @@ class NotAsked(Exception):
 
 @dataclass(frozen=True)
 class Sized:
-    """The least ring of all members, and a phase and a beginning at which it has to be so large,
+    """The smallest ring of all members, and a phase and a beginning at which it has to be so large,
     both in milliseconds."""
 
     blocks: int
@@ -88,7 +89,7 @@ class Asker:
         self.captures = captures
 
     def least(self, ring: Ring, pace: Pace, key: str | None, is_longer: bool) -> Sized:
-        """The least ring for all members; NotAsked where there is no answer."""
+        """The smallest ring for all members; NotAsked where there is no answer."""
         if is_longer:
             raise NotAsked("ringsize takes the captures' own lengths alone")
         lines = reader_lines(pace, ring)
@@ -120,26 +121,31 @@ class Asker:
         return seconds
 
     def answer(self, lines: list[str]) -> Sized:
-        (self.room.folder / "reader").write_text("\n".join([*lines, ""]))
-        done = run_program(self.program, ["sized", "reader"], self.room.folder, dict(os.environ))
-        if done.returncode == 3 and (refused := NO_ANSWER.search(done.stdout)):
-            raise NotAsked(f"ringsize says: {refused[0]}")
-        found = [GROUP_LINE.fullmatch(line) for line in done.stdout.splitlines()]
-        told = [one for one in found if one]
-        if done.returncode or len(told) != 1:
-            said = f"{status_words(done.returncode)} (status {done.returncode})"
-            raise Fault(f"{self.program}: {said}: {done.stdout.strip() or 'it printed nothing'}")
-        return Sized(*map(int, told[0].groups()))
+        return answered(self.program, self.room.folder, lines)
+
+
+def answered(program: Path, folder: Path, lines: list[str]) -> Sized:
+    """What ringsize answers of `sized`, a setup in a folder, and of a reader's text."""
+    (folder / "reader").write_text("\n".join([*lines, ""]))
+    done = run_program(program, ["sized", "reader"], folder, dict(os.environ))
+    if done.returncode == 3 and (refused := NO_ANSWER.search(done.stdout)):
+        raise NotAsked(f"ringsize says: {refused[0]}")
+    found = [GROUP_LINE.fullmatch(line) for line in done.stdout.splitlines()]
+    told = [one for one in found if one]
+    if done.returncode or len(told) != 1:
+        said = f"{status_words(done.returncode)} (status {done.returncode})"
+        raise Fault(f"{program}: {said}: {done.stdout.strip() or 'it printed nothing'}")
+    return Sized(*map(int, told[0].groups()))
 
 
 class Finder:
-    """Finds least rings by ringsize, and where that isn't there or has no answer by the model."""
+    """Finds smallest rings by ringsize, or where that isn't there or has no answer by the model."""
 
     def __init__(self, asker: Asker | None) -> None:
         self.asker = asker
 
     def find(self, model: Model, trials: Trials, ring: Ring, mine: Least) -> tuple[Least, str]:
-        """The least ring, of the key of one that the model found, and who found it, in words."""
+        """The smallest ring, of the key of one that the model found, and who found it, in words."""
         pace = model.pace
         try:
             if not self.asker:
@@ -148,10 +154,10 @@ class Finder:
         except NotAsked as reason:
             return mine, f"{reason}, so the tool's own model found it"
         if steps_of(pace, ring.block_size) is None or pace.begin is not None:
-            return Least(one.blocks, one.phase, mine.key), "`ringsize` found it"
+            return Least(one.blocks, one.phase, mine.key), ASKED
         found = Least(one.blocks, one.phase, mine.key, one.begin)
         whose = f"for a reader that begins {one.begin} ms after the first frame"
-        return found, f"`ringsize` found it {whose},"
+        return found, f"{ASKED} {whose},"
 
 
 class Waiting:

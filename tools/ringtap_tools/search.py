@@ -230,7 +230,7 @@ class Keys:
 
 
 def keys_of(model: Model, ring: Ring, count: int) -> Keys:
-    """The least ring under the setup's key, and under so many others, of which the worst one is
+    """The smallest ring under the setup's key, and under so many others, of which the worst one is
     looked at in all phases."""
     own = model.worst_least(ring)
     others = [model.worst_least(ring, key_of(number), FEW_PHASES) for number in range(1, count + 1)]

@@ -231,7 +231,7 @@ def draw_points(axes: Axes, panel: Panel, low: int, high: int, has_legend: bool 
         if (power - low) % every == 0:
             axes.text(
                 place(2**power),
-                axes.base + 18,
+                axes.base + 22,
                 f"{2**power / 1024:,.4g}" if power < 10 else f"{2**power // 1024:,}",
                 size=11,
             )

@@ -115,7 +115,7 @@ def panel_parts(panel: Panel, top: float, place, end: int) -> list[str]:
             f'<rect x="{place(one.start):.1f}" y="{top:.1f}" width="{width:.1f}" height="{PANEL}"'
             f' fill="{FULL}" fill-opacity="0.5"><title>{escape(told)}</title></rect>'
         )
-    parts.append(line(LEFT, top, WIDTH - RIGHT, top, FULL, ' stroke-dasharray="6 4"'))
+    parts.append(line(LEFT, top, WIDTH - RIGHT, top, INK, ' stroke-dasharray="6 4"'))
     parts.append(line(LEFT, base, WIDTH - RIGHT, base, INK))
     return parts
 

@@ -86,6 +86,12 @@ class Result:
     drops_by_phase: tuple[int, ...] = ()  # at every phase, by the tools' own model
     key: str | None = None  # under which the worst run was, where it isn't the setup's
     begin: int | None = None  # of the reader, milliseconds, where it isn't that of the pace
+    never_freezes: bool | None = None  # at any phase, where that was looked at
+
+    @property
+    def suffices(self) -> bool:
+        """A ring that loses nothing doesn't where it was seen that it freezes."""
+        return not self.drops if self.never_freezes is None else self.never_freezes
 
     @property
     def worst(self) -> Report:
@@ -281,11 +287,10 @@ def middle_of(line: list[Result]) -> Ring | None:
 
 
 def least_of(results: list[Result]) -> Result | None:
-    """The ring of the least memory that loses nothing at any phase, and no more of its line
-    does."""
+    """The ring of the least memory that suffices, as each larger one of its line does."""
     whole = []
     for line in lines_of(results):
-        losing = [result.ring.block_nr for result in line if result.drops]
+        losing = [result.ring.block_nr for result in line if not result.suffices]
         whole += [result for result in line if not losing or result.ring.block_nr > losing[-1]]
     return min(
         whole,
@@ -295,8 +300,7 @@ def least_of(results: list[Result]) -> Result | None:
 
 
 def answers_by_mode(results: list[Result]) -> list[Result]:
-    """For each mode and number of members its least ring that loses nothing, or else its
-    largest."""
+    """For each mode and number of members its smallest ring that suffices, or else its largest."""
     groups: dict[tuple[str, int], list[Result]] = {}
     for result in results:
         groups.setdefault((result.ring.mode, result.ring.members), []).append(result)
