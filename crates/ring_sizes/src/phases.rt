@@ -40,21 +40,22 @@ pub fn least_of_all(
         (λ phase from. least_of room stalls.now (begun pace.now phase from) arrivals.now end)
         result }
 {
-    let mut worst = least_at_phase(room, pace, tries, stalls, arrivals, end);
-    let mut phase = tries.first_phase + 1;
-    while phase < tries.phase_end {
+    let mut worst = least_from(room, pace, tries, stalls, arrivals, end);
+    let mut from = tries.first_from + 1;
+    while from < tries.from_end {
         let here = Tries {
-            first_phase: phase,
+            first_from: from,
             ..*tries
         };
-        worst = worst.or_more(least_at_phase(room, pace, &here, stalls, arrivals, end));
-        phase += 1;
+        worst = worst.more_first(least_from(room, pace, &here, stalls, arrivals, end));
+        from += 1;
     }
     worst
 }
 
-/// The same for the first phase of those that are tried.
-fn least_at_phase(
+/// The same for the first beginning of those that are tried. A phase with which all comes in the
+/// same order as with the one before it needs no pass.
+fn least_from(
     room: u32,
     pace: &Timing,
     tries: &Tries,
@@ -66,27 +67,28 @@ fn least_at_phase(
     requires early { All (λ arrival. arrival.at < 2 ^ 53) arrivals.now }
     requires soon { end < 2 ^ 53 }
     requires few { length arrivals.now < 2 ^ 60 }
-    ensures { IsFirstMost (record tries.now { phase_end = tries.now.first_phase + 1 })
+    ensures { IsFirstMost (record tries.now { from_end = tries.now.first_from + 1 })
         (λ phase from. least_of room stalls.now (begun pace.now phase from) arrivals.now end)
         result }
 {
-    let phase = tries.first_phase;
-    let mut from = tries.first_from;
-    let least = least_at(room, &pace.begun(phase, from), stalls, arrivals, end);
+    let from = tries.first_from;
+    let first = pace.begun(tries.first_phase, from);
+    let unit = first.unit();
     let mut worst = Reached {
-        number: least,
-        phase,
+        number: least_at(room, &first, stalls, arrivals, end),
+        phase: tries.first_phase,
         from,
     };
-    from += 1;
-    while from < tries.from_end {
-        let number = least_at(room, &pace.begun(phase, from), stalls, arrivals, end);
+    let mut phase = first.next_order(unit, tries.phase_end, arrivals, end);
+    while phase < tries.phase_end {
+        let here = pace.begun(phase, from);
+        let number = least_at(room, &here, stalls, arrivals, end);
         worst = worst.or_more(Reached {
             number,
             phase,
             from,
         });
-        from += 1;
+        phase = here.next_order(unit, tries.phase_end, arrivals, end);
     }
     worst
 }
