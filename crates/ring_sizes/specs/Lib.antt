@@ -7,3 +7,4 @@ pub mod Rests
 pub mod Places
 pub mod Phases
 pub mod Orders
+pub mod Shares

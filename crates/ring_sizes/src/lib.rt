@@ -10,6 +10,7 @@ mod paces;
 mod phase_losses;
 mod phases;
 mod sizes;
+mod threads;
 mod timed;
 mod timed_courses;
 mod tries;

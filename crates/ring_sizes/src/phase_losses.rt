@@ -9,8 +9,12 @@ ghost use Rattle.ring_sizes.specs.EventLists.{events_of};
 ghost use Rattle.ring_sizes.specs.Phases.{AreTried, IsBeginning, IsFirstFewest, IsFirstMost};
 ghost use Rattle.ring_sizes.specs.Phases.{IsPhase, begun, drops_of, or_fewer, or_more};
 ghost use Rattle.ring_sizes.specs.Schedules.{schedule_to};
+ghost use Rattle.ring_sizes.specs.Shares.{AreWork, IsRange};
+ghost use Rattle.std.specs.Thread.{IsSync};
 
+use crate::threads::thread_count;
 use crate::{Arrival, Reached, StallTime, Timing, Tries, losses_at};
+use std::thread::{Threads, join};
 
 /// The fewest and the most packets that a ring drops at the beginnings that are tried, each with
 /// the first at which it is reached.
@@ -22,8 +26,10 @@ pub struct DropRange {
 
 /// The fewest and the most packets that a ring with blocks of this room, and this number of them,
 /// drops at any phase of the timer and any beginning of the reader that are tried; and the first
-/// at which each is reached. `pace` has any phase and start.
-pub fn losses_of_all(
+/// at which each is reached. `pace` has any phase and start. The phases are shared out over
+/// threads, as many as there are processors and at most eight.
+pub fn losses_of_all<R: Threads + Sync>(
+    rt: &R,
     room: u32,
     blocks: u32,
     pace: &Timing,
@@ -49,6 +55,101 @@ pub fn losses_of_all(
     ensures most { IsFirstMost tries.now
         (λ phase from. drops_of room blocks stalls.now (begun pace.now phase from) arrivals.now end)
         result.most }
+{
+    losses_shared(
+        rt,
+        thread_count(rt),
+        room,
+        blocks,
+        pace,
+        tries,
+        stalls,
+        arrivals,
+        end,
+    )
+}
+
+/// The same on at most so many threads, each with some of the phases.
+fn losses_shared<R: Threads + Sync>(
+    rt: &R,
+    threads: u32,
+    room: u32,
+    blocks: u32,
+    pace: &Timing,
+    tries: &Tries,
+    stalls: &[StallTime],
+    arrivals: &[Arrival],
+    end: u64,
+) -> DropRange
+    requires { AreWork pace.now tries.now arrivals.now end }
+    ensures { IsRange room blocks pace.now stalls.now arrivals.now end tries.now result }
+{
+    let phases = tries.phase_end - tries.first_phase;
+    if threads < 2 || phases < 2 {
+        return losses_of_phases(room, blocks, pace, tries, stalls, arrivals, end);
+    }
+    let middle = tries.first_phase + (phases / threads * (threads / 2)).max(1);
+    let front = Tries {
+        phase_end: middle,
+        ..*tries
+    };
+    let back = Tries {
+        first_phase: middle,
+        ..*tries
+    };
+    let in_front = || -> DropRange
+        requires { IsSync R.row × AreWork pace.now front arrivals.now end }
+        ensures { IsRange room blocks pace.entry.now stalls.entry.now arrivals.entry.now end front
+            result }
+    {
+        losses_shared(
+            rt,
+            threads / 2,
+            room,
+            blocks,
+            pace,
+            &front,
+            stalls,
+            arrivals,
+            end,
+        )
+    };
+    let behind = || -> DropRange
+        requires { IsSync R.row × AreWork pace.now back arrivals.now end }
+        ensures { IsRange room blocks pace.entry.now stalls.entry.now arrivals.entry.now end back
+            result }
+    {
+        losses_shared(
+            rt,
+            threads - threads / 2,
+            room,
+            blocks,
+            pace,
+            &back,
+            stalls,
+            arrivals,
+            end,
+        )
+    };
+    let (one, other) = join(rt, in_front, behind);
+    DropRange {
+        fewest: one.fewest.or_fewer(other.fewest),
+        most: one.most.or_more(other.most),
+    }
+}
+
+/// The same on this thread.
+fn losses_of_phases(
+    room: u32,
+    blocks: u32,
+    pace: &Timing,
+    tries: &Tries,
+    stalls: &[StallTime],
+    arrivals: &[Arrival],
+    end: u64,
+) -> DropRange
+    requires { AreWork pace.now tries.now arrivals.now end }
+    ensures { IsRange room blocks pace.now stalls.now arrivals.now end tries.now result }
 {
     let mut range = losses_from(room, blocks, pace, tries, stalls, arrivals, end);
     let mut from = tries.first_from + 1;

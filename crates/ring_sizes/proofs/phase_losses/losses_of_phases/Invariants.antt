@@ -1,6 +1,6 @@
 use Rattle.std.proofs.Common.{◌-◌, ◌<◌, ◌≤◌}
 use Rattle.ring_sizes.specs.Phases.{IsFirstFewest, IsFirstMost, begun, drops_of}
-use Rattle.ring_sizes.proofs.phase_losses.losses_of_all.Given as goal
+use Rattle.ring_sizes.proofs.phase_losses.losses_of_phases.Given as goal
 
 abbrev pub invariant-loop-from : goal.invariant-loop-from
 invariant-loop-from l = record {

@@ -1,6 +1,6 @@
 use Rattle.std.proofs.Common.{◌-◌, ◌<◌, ◌≤◌}
 use Rattle.ring_sizes.specs.Phases.{IsFirstMost, begun, least_of}
-use Rattle.ring_sizes.proofs.phases.least_of_all.Given as goal
+use Rattle.ring_sizes.proofs.phases.least_of_phases.Given as goal
 
 abbrev pub invariant-loop-from : goal.invariant-loop-from
 invariant-loop-from l = record {
