@@ -15,3 +15,7 @@ pub mod Stalls
 pub mod Worsts
 pub mod CourseGaps
 pub mod CourseRests
+pub mod SameOrder
+pub mod Leeways
+pub mod Stretches
+pub mod Columns

@@ -24,6 +24,7 @@ pub record IsOrder (Best Better : ℕ → ℕ → Type 0) : Type 0 where
   pub weak : (n m : ℕ) → Better n m → Best n m
   pub chain : (n m k : ℕ) → Best n m → Best m k → Best n k
   pub better : (n m k : ℕ) → Better n m → Best m k → Better n k
+  pub after : (n m k : ℕ) → Best n m → Better m k → Better n k
 
 pub most : IsOrder (λ number other. other ≤ number) (λ number other. other < number)
 most = record {
@@ -31,6 +32,7 @@ most = record {
   weak = λ n m h. omega (arith, h);
   chain = λ n m k h g. omega (arith, h, g);
   better = λ n m k h g. omega (arith, h, g);
+  after = λ n m k h g. omega (arith, h, g);
 }
 
 pub fewest : IsOrder (λ number other. number ≤ other) (λ number other. number < other)
@@ -39,6 +41,7 @@ fewest = record {
   weak = λ n m h. omega (arith, h);
   chain = λ n m k h g. omega (arith, h, g);
   better = λ n m k h g. omega (arith, h, g);
+  after = λ n m k h g. omega (arith, h, g);
 }
 
 module _ (Best Better : ℕ → ℕ → Type 0) (order : IsOrder Best Better) (number_at : ℕ → ℕ → ℕ) where
@@ -134,67 +137,6 @@ module _ (Best Better : ℕ → ℕ → Type 0) (order : IsOrder Best Better) (n
   next_from tries tried number found true h some is more few = better_from tries tried number found h some is (more refl)
   next_from tries tried number found false h some is more few = same_from tries tried number found h is (few refl)
 
-  -- ---- the phases
-
-  abbrev below : Tries → ℕ → Tries
-  below tries end = record tries { phase_end = end }
-
-  abbrev only_at : Tries → ℕ → Tries
-  only_at tries phase = record tries { first_phase = phase; phase_end = phase + 1 }
-
-  -- one phase more, which is better
-  pub better_phase : (tries : Tries) (tried : ℕ) (found new : Reached) → Found (below tries tried) found
-      → Found (only_at tries tried) new → tries.first_phase < tried → Better new.number found.number
-      → Found (below tries (tried + 1)) new
-  better_phase tries tried found new h g some more = record {
-    phase = (omega (arith, some, g.phase.0), g.phase.1);
-    from = g.from;
-    reached = g.reached;
-    best = λ phase from p f. best phase from p f (cases_lt phase tried);
-    first = λ phase from p f earlier. first phase from p f earlier (cases_lt phase tried);
-  } where
-    before : (phase from : ℕ) → IsPhase (below tries (tried + 1)) phase → IsBeginning tries from → phase < tried
-        → Better new.number (number_at phase from)
-    before phase from p f early = order.better new.number found.number _ more (h.best phase from (p.0, early) f)
-
-    best : (phase from : ℕ) → IsPhase (below tries (tried + 1)) phase → IsBeginning tries from
-        → (phase < tried) ⊎ (tried ≤ phase) → Best new.number (number_at phase from)
-    best phase from p f (inl early) = order.weak new.number _ (before phase from p f early)
-    best phase from p f (inr late) = g.best phase from (late, p.1) f
-
-    first : (phase from : ℕ) → IsPhase (below tries (tried + 1)) phase → IsBeginning tries from → IsEarlier phase from new
-        → (phase < tried) ⊎ (tried ≤ phase) → Better new.number (number_at phase from)
-    first phase from p f earlier (inl early) = before phase from p f early
-    first phase from p f earlier (inr late) = g.first phase from (late, p.1) f earlier
-
-  -- one phase more, which is no better
-  pub same_phase : (tries : Tries) (tried : ℕ) (found new : Reached) → Found (below tries tried) found
-      → Found (only_at tries tried) new → Best found.number new.number → Found (below tries (tried + 1)) found
-  same_phase tries tried found new h g few = record {
-    phase = (h.phase.0, omega (arith, h.phase.1));
-    from = h.from;
-    reached = h.reached;
-    best = λ phase from p f. best phase from p f (cases_lt phase tried);
-    first = λ phase from p f earlier. first phase from p f earlier;
-  } where
-    best : (phase from : ℕ) → IsPhase (below tries (tried + 1)) phase → IsBeginning tries from
-        → (phase < tried) ⊎ (tried ≤ phase) → Best found.number (number_at phase from)
-    best phase from p f (inl early) = h.best phase from (p.0, early) f
-    best phase from p f (inr late) = order.chain found.number new.number _ few (g.best phase from (late, p.1) f)
-
-    first : (phase from : ℕ) → IsPhase (below tries (tried + 1)) phase → IsBeginning tries from → IsEarlier phase from found
-        → Better found.number (number_at phase from)
-    first phase from p f (inl early) = h.first phase from (p.0, omega (arith, early, h.phase.1)) f (inl early)
-    first phase from p f (inr early) =
-        h.first phase from (p.0, omega (arith, early.0, h.phase.1)) f (inr early)
-
-  pub next_phase : (tries : Tries) (tried : ℕ) (found new : Reached) (take : Bool) → Found (below tries tried) found
-      → Found (only_at tries tried) new → tries.first_phase < tried
-      → (take ≡ true → Better new.number found.number) → (take ≡ false → Best found.number new.number)
-      → Found (below tries (tried + 1)) (cond take new found)
-  next_phase tries tried found new true h g some more few = better_phase tries tried found new h g some (more refl)
-  next_phase tries tried found new false h g some more few = same_phase tries tried found new h g (few refl)
-
 -- ---- the greatest and the least
 
 pub less : (n m : ℕ) → nat_lt n m ≡ true → n < m
@@ -213,13 +155,6 @@ module _ (number_at : ℕ → ℕ → ℕ) (tries : Tries) (tried : ℕ) where
       next_from _ _ most number_at tries tried number found (nat_lt found.number number) h some is (less found.number number)
       (not_less found.number number)
 
-  pub more_phase : (found new : Reached) → IsFirstMost (record tries { phase_end = tried }) number_at found
-      → IsFirstMost (record tries { first_phase = tried; phase_end = tried + 1 }) number_at new → tries.first_phase < tried
-      → IsFirstMost (record tries { phase_end = tried + 1 }) number_at (or_more found new)
-  more_phase found new h g some =
-      next_phase _ _ most number_at tries tried found new (nat_lt found.number new.number) h g some
-      (less found.number new.number) (not_less found.number new.number)
-
   pub fewer_from : (number : ℕ) (found : Reached)
       → IsFirstFewest (record tries { phase_end = tries.first_phase + 1; from_end = tried }) number_at found
       → tries.first_from < tried → number ≡ number_at tries.first_phase tried
@@ -228,13 +163,6 @@ module _ (number_at : ℕ → ℕ → ℕ) (tries : Tries) (tried : ℕ) where
   fewer_from number found h some is =
       next_from _ _ fewest number_at tries tried number found (nat_lt number found.number) h some is
       (less number found.number) (not_less number found.number)
-
-  pub fewer_phase : (found new : Reached) → IsFirstFewest (record tries { phase_end = tried }) number_at found
-      → IsFirstFewest (record tries { first_phase = tried; phase_end = tried + 1 }) number_at new → tries.first_phase < tried
-      → IsFirstFewest (record tries { phase_end = tried + 1 }) number_at (or_fewer found new)
-  fewer_phase found new h g some =
-      next_phase _ _ fewest number_at tries tried found new (nat_lt new.number found.number) h g some
-      (less new.number found.number) (not_less new.number found.number)
 
 -- ---- what is tried is a pace
 
@@ -252,17 +180,17 @@ tried_pace pace tries phase from h few late = record {
   late = omega (arith, late);
 }
 
-pub one_phase : (pace : Timing) (tries : Tries) (phase : ℕ) → AreTried pace tries → phase < tries.phase_end
-    → AreTried pace (record tries { first_phase = phase })
-one_phase pace tries phase h few = record {
+pub one_from : (pace : Timing) (tries : Tries) (from : ℕ) → AreTried pace tries → from < tries.from_end
+    → AreTried pace (record tries { first_from = from })
+one_from pace tries from h few = record {
   tov = h.tov;
   span = h.span;
   brief = h.brief;
   parts = h.parts;
   quick = h.quick;
-  phases = few;
+  phases = h.phases;
   below = h.below;
-  beginnings = h.beginnings;
+  beginnings = few;
 }
 
 -- ---- what the pass reports

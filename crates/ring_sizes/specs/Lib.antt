@@ -6,3 +6,5 @@ pub mod Schedules
 pub mod Rests
 pub mod Places
 pub mod Phases
+pub mod Orders
+pub mod Shares

@@ -1,6 +1,6 @@
 -- Numbers at each beginning of a timer and a reader: the first at which one is greatest or least.
 use Rattle.std.specs.Prelude.{◌≡◌, ℕ, ◌*◌, ◌<◌, ◌≤◌, ◌^◌, ◌⊎◌, List, nat_lt}
-use Rattle.std.specs.Prelude.{if◌then◌else◌}
+use Rattle.std.specs.Prelude.{if◌then◌else◌, ◌==◌, ◌&&◌, ◌||◌}
 use Rattle.ring_sizes.specs.Courses.{all_went_on, first_course}
 use Rattle.ring_sizes.specs.Passes.{first_pass, passed_all}
 use Rattle.ring_sizes.specs.Schedules.{schedule_to}
@@ -80,3 +80,15 @@ or_more found other = if nat_lt found.number other.number then other else found
 -- the one with the lesser number; of equal ones the first
 abbrev pub or_fewer : Reached → Reached → Reached
 or_fewer found other = if nat_lt other.number found.number then other else found
+
+-- the one with the greater number; of equal ones that at the earlier phase, or else the first
+abbrev pub more_first : Reached → Reached → Reached
+more_first found other =
+    if nat_lt found.number other.number
+    || (found.number == other.number && nat_lt other.phase found.phase) then other else found
+
+-- the one with the lesser number; of equal ones that at the earlier phase, or else the first
+abbrev pub fewer_first : Reached → Reached → Reached
+fewer_first found other =
+    if nat_lt other.number found.number
+    || (found.number == other.number && nat_lt other.phase found.phase) then other else found

@@ -8,10 +8,13 @@ ghost use Rattle.ring_model.specs.Ring.{Size};
 ghost use Rattle.ring_model.specs.Rings.{fresh};
 ghost use Rattle.ring_sizes.specs.EventLists.{events_of};
 ghost use Rattle.ring_sizes.specs.Courses.{all_went_on, course_stats, first_course};
+ghost use Rattle.ring_sizes.specs.Orders.{PassesNoFrame, PassesNoStep, at_phase};
 ghost use Rattle.ring_sizes.specs.Passes.{first_pass, passed_all};
 ghost use Rattle.ring_sizes.specs.Reads.{read_times};
-ghost use Rattle.ring_sizes.specs.Schedules.{IsPace, step_moment, steps_before};
+ghost use Rattle.ring_sizes.specs.Schedules.{IsPace, schedule_to, step_moment, steps_before};
 ghost use Rattle.ring_sizes.specs.Schedules.{tick_moment, ticks_by};
+ghost use Rattle.ring_sizes.specs.declared.paces.Arrival.{Arrival};
+ghost use Rattle.ring_sizes.specs.declared.paces.StallTime.{StallTime};
 ghost use Rattle.ring_sizes.specs.declared.paces.Timing.{Timing};
 
 /// A reader that reads as often as the ring has blocks, or more often, has read all of them.
@@ -55,4 +58,14 @@ pub fn a_tick_is_counted_from_its_moment_on()
 pub fn a_step_is_counted_after_its_moment()
     ensures { (pace : Timing) (at number : ℕ) → IsPace pace → 1 ≤ number
         → (number ≤ steps_before pace at) ↔ (step_moment pace number < at) }
+{}
+
+/// At another phase of the timer all events come in the same order, where no tick passes a frame,
+/// the end or a step of the reader: so each pass over them reports the same.
+pub fn events_stay_in_order_where_no_tick_passes_any()
+    ensures { (stalls : List StallTime) (pace : Timing) (phase end : ℕ) (arrivals : List Arrival)
+        → pace.phase < pace.tov → phase < pace.tov
+        → PassesNoFrame pace phase end 0 arrivals → PassesNoStep pace phase
+        → schedule_to stalls (at_phase pace phase) arrivals end
+        ≡ schedule_to stalls pace arrivals end }
 {}

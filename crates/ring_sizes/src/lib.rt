@@ -5,10 +5,12 @@
 mod courses;
 mod events;
 mod laws;
+mod orders;
 mod paces;
 mod phase_losses;
 mod phases;
 mod sizes;
+mod threads;
 mod timed;
 mod timed_courses;
 mod tries;
@@ -19,6 +21,7 @@ pub use laws::{
     a_course_counts_what_the_ring_counts, a_pass_tells_the_least_ring,
     a_ring_never_freezes_where_it_counts_no_freeze, a_step_is_counted_after_its_moment,
     a_tick_is_counted_from_its_moment_on, as_many_reads_as_blocks_read_all,
+    events_stay_in_order_where_no_tick_passes_any,
 };
 pub use paces::{Arrival, StallTime, Timing};
 pub use phase_losses::{DropRange, losses_of_all};

@@ -5,7 +5,7 @@ ghost use Rattle.ring_sizes.specs.Phases.{begun};
 ghost use Rattle.ring_sizes.specs.Schedules.{IsPace, awake, is_stalled, step_moment};
 ghost use Rattle.ring_sizes.specs.Schedules.{steps_before, tick_moment, ticks_by};
 
-const MILLISECOND: u64 = 1_000_000;
+pub(crate) const MILLISECOND: u64 = 1_000_000;
 
 /// A moment after that of each frame.
 const LATEST: u64 = 1 << 53;

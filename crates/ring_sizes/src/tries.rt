@@ -1,6 +1,6 @@
 //! Which beginnings of a timer and a reader are tried, and what was found.
 ghost use Rattle.std.specs.Prelude.{◌≡◌};
-ghost use Rattle.ring_sizes.specs.Phases.{or_fewer, or_more};
+ghost use Rattle.ring_sizes.specs.Phases.{fewer_first, more_first, or_fewer, or_more};
 
 /// The beginnings of a timer and a reader that are tried, in whole milliseconds: each phase of the
 /// timer with each beginning of the reader.
@@ -43,6 +43,30 @@ impl Reached {
         ensures { result ≡ or_fewer self other }
     {
         if other.number < self.number {
+            other
+        } else {
+            self
+        }
+    }
+
+    /// The one with the greater number; of equal ones that at the earlier phase, or else this one.
+    pub(crate) fn more_first(self, other: Reached) -> Reached
+        ensures { result ≡ more_first self other }
+    {
+        let is_same = self.number == other.number;
+        if self.number < other.number || is_same && other.phase < self.phase {
+            other
+        } else {
+            self
+        }
+    }
+
+    /// The one with the lesser number; of equal ones that at the earlier phase, or else this one.
+    pub(crate) fn fewer_first(self, other: Reached) -> Reached
+        ensures { result ≡ fewer_first self other }
+    {
+        let is_same = self.number == other.number;
+        if other.number < self.number || is_same && other.phase < self.phase {
             other
         } else {
             self

@@ -62,6 +62,30 @@ const ARRIVALS: [Arrival; 11] = [
     },
 ];
 
+const FEW: [Arrival; 6] = [
+    Arrival { at: 0, need: 400 },
+    Arrival {
+        at: 3_100_000,
+        need: 700,
+    },
+    Arrival {
+        at: 3_900_000,
+        need: 400,
+    },
+    Arrival {
+        at: 52_000_000,
+        need: 304,
+    },
+    Arrival {
+        at: 52_000_000,
+        need: 800,
+    },
+    Arrival {
+        at: 90_000_000,
+        need: 144,
+    },
+];
+
 /// A reader that takes all each 6 ms.
 const TAKES_ALL: Timing = Timing {
     tov: 5,
@@ -103,7 +127,7 @@ fn a_reader_that_takes_all_and_stalls(rt: HostRuntime) {
 
 #[test]
 fn a_reader_that_takes_all_and_stalls_whenever_it_began(rt: HostRuntime) {
-    let worst = least_of_all(ROOM, &TAKES_ALL, &TRIES, &STALLS, &ARRIVALS, END);
+    let worst = least_of_all(&rt, ROOM, &TAKES_ALL, &TRIES, &STALLS, &ARRIVALS, END);
     assert_eq!(rt;
         worst,
         Reached {
@@ -112,7 +136,7 @@ fn a_reader_that_takes_all_and_stalls_whenever_it_began(rt: HostRuntime) {
             from: 1
         }
     );
-    let range = losses_of_all(ROOM, 2, &TAKES_ALL, &TRIES, &STALLS, &ARRIVALS, END);
+    let range = losses_of_all(&rt, ROOM, 2, &TAKES_ALL, &TRIES, &STALLS, &ARRIVALS, END);
     assert_eq!(rt;
         range,
         DropRange {
@@ -151,7 +175,7 @@ fn a_reader_of_one_block_at_a_time(rt: HostRuntime) {
             freezes: 1
         }
     );
-    let worst = least_of_all(ROOM, &pace, &TRIES, &[], &ARRIVALS, END);
+    let worst = least_of_all(&rt, ROOM, &pace, &TRIES, &[], &ARRIVALS, END);
     assert_eq!(rt;
         worst,
         Reached {
@@ -160,7 +184,7 @@ fn a_reader_of_one_block_at_a_time(rt: HostRuntime) {
             from: 0
         }
     );
-    let range = losses_of_all(ROOM, 2, &pace, &TRIES, &[], &ARRIVALS, END);
+    let range = losses_of_all(&rt, ROOM, 2, &pace, &TRIES, &[], &ARRIVALS, END);
     assert_eq!(rt;
         range,
         DropRange {
@@ -192,4 +216,45 @@ fn ticks_after_the_last_frame_count(rt: HostRuntime) {
     let first = &ARRIVALS[..3];
     assert_eq!(rt; least_at(ROOM, &pace, &[], first, 8_200_000), 3);
     assert_eq!(rt; least_at(ROOM, &pace, &[], first, 40_000_000), 4);
+}
+
+/// Of 400 phases and beginnings most have all in the same order as the phase before.
+#[test]
+fn phases_between_few_frames(rt: HostRuntime) {
+    let pace = Timing {
+        tov: 40,
+        span: 10_000_000,
+        ..TAKES_ALL
+    };
+    let tries = Tries {
+        phase_end: 40,
+        from_end: 10,
+        ..TRIES
+    };
+    let worst = least_of_all(&rt, ROOM, &pace, &tries, &[], &FEW, 95_000_000);
+    assert_eq!(rt;
+        worst,
+        Reached {
+            number: 4,
+            phase: 27,
+            from: 3
+        }
+    );
+    let range = losses_of_all(&rt, ROOM, 2, &pace, &tries, &[], &FEW, 95_000_000);
+    assert_eq!(rt;
+        range.fewest,
+        Reached {
+            number: 0,
+            phase: 37,
+            from: 3
+        }
+    );
+    assert_eq!(rt;
+        range.most,
+        Reached {
+            number: 1,
+            phase: 0,
+            from: 0
+        }
+    );
 }

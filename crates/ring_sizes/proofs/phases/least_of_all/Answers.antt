@@ -6,24 +6,24 @@ use Rattle.ring_sizes.proofs.Worsts.{least_some, never_at}
 use Rattle.ring_sizes.proofs.phases.least_of_all.Goals as goal
 
 pub returns-clause-some : goal.returns-clause-some
-returns-clause-some c =
-    let worst : Reached = c.loop-phase.worst in
+returns-clause-some g c =
+    let worst : Reached = c.least_shared.result in
     let some = least_some c.args.room c.args.stalls.now (begun c.args.pace.now worst.phase worst.from) c.args.arrivals.now
     c.args.end in
-    omega (arith, some, c.loop-phase.invariant.far.reached)
+    omega (arith, some, c.least_shared.ensures.reached)
 
 pub returns-clause-enough : goal.returns-clause-enough
-returns-clause-enough c = λ phase from blocks happenings early inside same few.
+returns-clause-enough g c = λ phase from blocks happenings early inside same few.
     let pace = begun c.args.pace.now phase from in
     let some = least_some c.args.room c.args.stalls.now pace c.args.arrivals.now c.args.end in
-    let most = c.loop-phase.invariant.far.best phase from (early.0, omega (arith, early.1, c.loop-phase-test.false)) inside in
+    let most = c.least_shared.ensures.best phase from early inside in
     (never_at c.args.room blocks c.args.stalls.now pace c.args.arrivals.now c.args.end happenings same
     (omega (arith, some, most, few))).1 (omega (arith, most, few))
 
 pub returns-clause-reached : goal.returns-clause-reached
-returns-clause-reached c = λ blocks happenings same some.
-    let worst : Reached = c.loop-phase.worst in
+returns-clause-reached g c = λ blocks happenings same some.
+    let worst : Reached = c.least_shared.result in
     let pace = begun c.args.pace.now worst.phase worst.from in
     subst (λ (least : ℕ). NeverFreezes (record { room = c.args.room; blocks = blocks; tov = c.args.pace.now.tov }) happenings
-    ↔ (least ≤ blocks)) (sym c.loop-phase.invariant.far.reached)
+    ↔ (least ≤ blocks)) (sym c.least_shared.ensures.reached)
     (never_at c.args.room blocks c.args.stalls.now pace c.args.arrivals.now c.args.end happenings same some)

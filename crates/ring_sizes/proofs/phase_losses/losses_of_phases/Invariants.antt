@@ -1,14 +1,14 @@
-use Rattle.std.proofs.Common.{◌+◌, ◌-◌, ◌<◌, ◌≤◌}
+use Rattle.std.proofs.Common.{◌-◌, ◌<◌, ◌≤◌}
 use Rattle.ring_sizes.specs.Phases.{IsFirstFewest, IsFirstMost, begun, drops_of}
-use Rattle.ring_sizes.proofs.phase_losses.losses_at_phase.Given as goal
+use Rattle.ring_sizes.proofs.phase_losses.losses_of_phases.Given as goal
 
 abbrev pub invariant-loop-from : goal.invariant-loop-from
 invariant-loop-from l = record {
   some : l.tries.first_from < l.from;
   below : l.from ≤ l.tries.from_end;
-  fewest : IsFirstFewest (record l.tries { phase_end = l.tries.first_phase + 1; from_end = l.from })
+  fewest : IsFirstFewest (record l.tries { from_end = l.from })
       (λ phase from. drops_of l.room l.blocks l.stalls (begun l.pace phase from) l.arrivals l.end) l.range.fewest;
-  most : IsFirstMost (record l.tries { phase_end = l.tries.first_phase + 1; from_end = l.from })
+  most : IsFirstMost (record l.tries { from_end = l.from })
       (λ phase from. drops_of l.room l.blocks l.stalls (begun l.pace phase from) l.arrivals l.end) l.range.most;
 }
 

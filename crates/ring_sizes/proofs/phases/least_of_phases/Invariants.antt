@@ -1,12 +1,12 @@
-use Rattle.std.proofs.Common.{◌+◌, ◌-◌, ◌<◌, ◌≤◌}
+use Rattle.std.proofs.Common.{◌-◌, ◌<◌, ◌≤◌}
 use Rattle.ring_sizes.specs.Phases.{IsFirstMost, begun, least_of}
-use Rattle.ring_sizes.proofs.phases.least_at_phase.Given as goal
+use Rattle.ring_sizes.proofs.phases.least_of_phases.Given as goal
 
 abbrev pub invariant-loop-from : goal.invariant-loop-from
 invariant-loop-from l = record {
   some : l.tries.first_from < l.from;
   below : l.from ≤ l.tries.from_end;
-  far : IsFirstMost (record l.tries { phase_end = l.tries.first_phase + 1; from_end = l.from })
+  far : IsFirstMost (record l.tries { from_end = l.from })
       (λ phase from. least_of l.room l.stalls (begun l.pace phase from) l.arrivals l.end) l.worst;
 }
 
