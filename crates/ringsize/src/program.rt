@@ -5,6 +5,7 @@ ghost use Rattle.tap_sizes.specs.SizeNumbers.{number_of};
 use std::env::Env;
 use std::process::ExitCode;
 use std::rt::Files;
+use std::thread::Threads;
 use tap_outside::{DiskStore, History, StdSink};
 use tap_running::{print_memory, words};
 use tap_sizes::{SizeOutcome, SizeStatus, run_size};
@@ -13,7 +14,7 @@ use tap_sizes::{SizeOutcome, SizeStatus, run_size};
 /// returns the program's exit status.
 pub(crate) fn run_program<R>(rt: &R) -> ExitCode
 where
-    R: Env + Files + Print + AllocGlobal,
+    R: Env + Files + Print + AllocGlobal + Threads + Sync,
     R::File: Send,
 {
     let Ok(words) = words(rt, rt.alloc(), &mut History::new()) else {
@@ -23,7 +24,7 @@ where
     };
     let mut store = DiskStore::new(rt);
     let mut out = StdSink::new(rt);
-    let outcome = run_size(rt.alloc(), words.as_slice(), &mut store, &mut out);
+    let outcome = run_size(rt, rt.alloc(), words.as_slice(), &mut store, &mut out);
     ExitCode::from(code_of(&outcome))
 }
 

@@ -23,13 +23,15 @@ use ring_sizes::{
 use setup_text::Setup;
 use size_printing::{DropRanges, ReachedList, ReadFiles, SizeReport};
 use std::alloc::Global;
+use std::thread::Threads;
 use tp_layout::Shape;
 
 /// More arrivals than memory holds.
 const TOO_MANY: usize = 1 << 60;
 
 /// What is found out about the rings of a setup, from what its members are given.
-pub(crate) fn answers_of(
+pub(crate) fn answers_of<R: Threads + Sync>(
+    rt: &R,
     alloc: Global,
     setup: &Setup,
     reader: &PacedReader,
@@ -51,7 +53,7 @@ pub(crate) fn answers_of(
     let tries = tries_of(reader, tov);
     let stalls = stalls_of(alloc, reader)?;
     let room = setup.shape.room();
-    let rings = least_rings(alloc, room, &pace, &tries, stalls.as_slice(), dealt)?;
+    let rings = least_rings(rt, alloc, room, &pace, &tries, stalls.as_slice(), dealt)?;
     let group = greatest(rings.as_slice());
     if rolls_over(&setup.plan) {
         return Ok(SizeReport {
@@ -61,7 +63,15 @@ pub(crate) fn answers_of(
             drops: DropRanges::new(alloc),
         });
     }
-    let drops = drop_ranges(alloc, &setup.shape, &pace, &tries, stalls.as_slice(), dealt)?;
+    let drops = drop_ranges(
+        rt,
+        alloc,
+        &setup.shape,
+        &pace,
+        &tries,
+        stalls.as_slice(),
+        dealt,
+    )?;
     Ok(SizeReport {
         files,
         members: rings,
@@ -71,7 +81,8 @@ pub(crate) fn answers_of(
 }
 
 /// The least ring of each member.
-fn least_rings(
+fn least_rings<R: Threads + Sync>(
+    rt: &R,
     alloc: Global,
     room: u32,
     pace: &Timing,
@@ -88,14 +99,15 @@ fn least_rings(
 {
     let mut rings = ReachedList::new(alloc);
     for arrivals in &dealt.members {
-        let ring = least_ring(room, pace, tries, stalls, arrivals, dealt.end)?;
+        let ring = least_ring(rt, room, pace, tries, stalls, arrivals, dealt.end)?;
         rings.push(ring)?;
     }
     Ok(rings)
 }
 
 /// The least ring of a member, and the first phase and beginning at which it is needed.
-fn least_ring(
+fn least_ring<R: Threads + Sync>(
+    rt: &R,
     room: u32,
     pace: &Timing,
     tries: &Tries,
@@ -110,7 +122,7 @@ fn least_ring(
         (record { pace = pace.now; stalls = stalls.now; end = end }) arrivals.now)) }
 {
     let arrivals = counted(arrivals)?;
-    Ok(least_of_all(room, pace, tries, stalls, arrivals, end))
+    Ok(least_of_all(rt, room, pace, tries, stalls, arrivals, end))
 }
 
 /// What a member is given, as a pass takes it.
@@ -126,7 +138,8 @@ fn counted(arrivals: &DealtList) -> Result<&[Arrival], Memory>
 }
 
 /// The fewest and the most packets that the setup's own ring of each member drops.
-fn drop_ranges(
+fn drop_ranges<R: Threads + Sync>(
+    rt: &R,
     alloc: Global,
     shape: &Shape,
     pace: &Timing,
@@ -143,14 +156,15 @@ fn drop_ranges(
 {
     let mut ranges = DropRanges::new(alloc);
     for arrivals in &dealt.members {
-        let range = drop_range(shape, pace, tries, stalls, arrivals, dealt.end)?;
+        let range = drop_range(rt, shape, pace, tries, stalls, arrivals, dealt.end)?;
         ranges.push(range)?;
     }
     Ok(ranges)
 }
 
 /// The fewest and the most packets that a member's ring drops.
-fn drop_range(
+fn drop_range<R: Threads + Sync>(
+    rt: &R,
     shape: &Shape,
     pace: &Timing,
     tries: &Tries,
@@ -166,7 +180,7 @@ fn drop_range(
 {
     let arrivals = counted(arrivals)?;
     let (room, blocks) = (shape.room(), shape.block_nr());
-    Ok(losses_of_all(room, blocks, pace, tries, stalls, arrivals, end))
+    Ok(losses_of_all(rt, room, blocks, pace, tries, stalls, arrivals, end))
 }
 
 /// The greatest of some rings, and of those that are as great the one at the first phase and

@@ -15,6 +15,7 @@ use crate::size_findings::SizeFinding;
 use crate::{SizeOutcome, SizeStatus};
 use frame_view::Memory;
 use std::alloc::Global;
+use std::thread::Threads;
 use tap_outside::{Sink, Store, Word};
 use tap_running::{print_lines, print_memory};
 
@@ -24,8 +25,10 @@ use tap_running::{print_lines, print_memory};
 /// the reader's text and the files of each CPU, its capture and then its further ones, are read one
 /// after another; then the smallest ring of each member and of the group is printed that never
 /// finds a block still the reader's, whatever phase of the timer and whatever beginning of the
-/// reader is tried. docs/reference.md lists texts and lines, which are this project's own choice.
-pub fn run_size<S: Store, O: Sink>(
+/// reader is tried. The phases are tried on as many threads as there are processors, at most eight.
+/// docs/reference.md lists texts and lines, which are this project's own choice.
+pub fn run_size<S: Store, O: Sink, R: Threads + Sync>(
+    rt: &R,
     alloc: Global,
     words: &[Word],
     store: &mut S,
@@ -56,7 +59,7 @@ pub fn run_size<S: Store, O: Sink>(
     ensures faultless { IsFaultless
         (S.seen store.old) (S.seen store.new) (O.seen out.old) (O.seen out.new) result.status }
 {
-    let found = search(alloc, words, store);
+    let found = search(rt, alloc, words, store);
     finish(alloc, found, out)
 }
 

@@ -32,12 +32,14 @@ use reader_pace::PacedReader;
 use run_reports::RingKind;
 use setup_text::Job;
 use std::alloc::Global;
+use std::thread::Threads;
 use tap_outside::{Store, Word};
 use tap_reading::LoadError;
 use tp_layout::a_shape_is_sound;
 
 /// Finds what the words ask for. The store is only read.
-pub(crate) fn search<S: Store>(
+pub(crate) fn search<S: Store, R: Threads + Sync>(
+    rt: &R,
     alloc: Global,
     words: &[Word],
     store: &mut S,
@@ -48,11 +50,12 @@ pub(crate) fn search<S: Store>(
     let Some(asked) = size_words(words) else {
         return Ok(SizeFinding::NoNames);
     };
-    search_names(alloc, asked, store)
+    search_names(rt, alloc, asked, store)
 }
 
 /// Finds what is asked for under two names.
-fn search_names<S: Store>(
+fn search_names<S: Store, R: Threads + Sync>(
+    rt: &R,
     alloc: Global,
     asked: AskedSizes<'_>,
     store: &mut S,
@@ -63,7 +66,7 @@ fn search_names<S: Store>(
         (S.seen store.old) (S.seen store.new) result }
 {
     match load_size_job(alloc, asked, store) {
-        Ok(job) => search_job(alloc, asked.reader, &job, store),
+        Ok(job) => search_job(rt, alloc, asked.reader, &job, store),
         Err(stop) => stopped(stop),
     }
 }
@@ -81,7 +84,8 @@ fn stopped(stop: LoadError) -> Result<SizeFinding, Memory>
 }
 
 /// Finds what is asked for with a setup and its filter.
-fn search_job<S: Store>(
+fn search_job<S: Store, R: Threads + Sync>(
+    rt: &R,
     alloc: Global,
     reader: &[u8],
     job: &Job,
@@ -97,7 +101,7 @@ fn search_job<S: Store>(
         → IsSizeSearched (Some named) start (S.seen store.new) result }
 {
     match load_reader(alloc, store, reader, &job.setup) {
-        Ok(reader) => search_captures(alloc, job, &reader, store),
+        Ok(reader) => search_captures(rt, alloc, job, &reader, store),
         Err(stop) => reader_stopped(stop),
     }
 }
@@ -114,7 +118,8 @@ fn reader_stopped(stop: ReaderStop) -> Result<SizeFinding, Memory>
 }
 
 /// Finds what is asked for with texts that are accepted.
-fn search_captures<S: Store>(
+fn search_captures<S: Store, R: Threads + Sync>(
+    rt: &R,
     alloc: Global,
     job: &Job,
     reader: &PacedReader,
@@ -134,11 +139,12 @@ fn search_captures<S: Store>(
         return Ok(SizeFinding::Unanswered(why));
     }
     let reads = read_cpus(alloc, job, reader.more.as_slice(), store)?;
-    measure(alloc, job, reader, reads)
+    measure(rt, alloc, job, reader, reads)
 }
 
 /// Answers what is asked for, from what was read of the captures.
-fn measure(
+fn measure<R: Threads + Sync>(
+    rt: &R,
     alloc: Global,
     job: &Job,
     reader: &PacedReader,
@@ -165,7 +171,7 @@ fn measure(
     if dealt.lasts_too_long() {
         return Ok(SizeFinding::TooLong(files));
     }
-    let report = answers_of(alloc, &job.setup, reader, &dealt, files)?;
+    let report = answers_of(rt, alloc, &job.setup, reader, &dealt, files)?;
     let unit = job.setup.shape.block_size();
     Ok(SizeFinding::Sized(RingKind::Blocks, unit, report))
 }

@@ -9,7 +9,7 @@ use Rattle.tp_layout.specs.Requests.{room_of}
 use Rattle.tap_sizes.proofs.answers.answers_of.Goals as goal
 
 pub greatest-group-requires : goal.greatest-group-requires
-greatest-group-requires c =
+greatest-group-requires g c =
     let clocks : Clocks = record {
       pace = c.pace_of-pace.result;
       stalls = c.as_slice.result.now;
@@ -22,7 +22,7 @@ greatest-group-requires c =
     omega (arith, count, some, same)
 
 pub returns-then-rolls_over : goal.returns-then-rolls_over
-returns-then-rolls_over c =
+returns-then-rolls_over g c =
     let setup = c.args.setup.now in
     let reader = c.args.reader.now in
     let all = c.args.dealt.now.members.items in
@@ -48,7 +48,7 @@ returns-then-rolls_over c =
     (λ is. (c.new.ensures, c.new-then-rolls_over.ensures))
 
 pub returns : goal.returns
-returns c =
+returns g c =
     let setup = c.args.setup.now in
     let reader = c.args.reader.now in
     let all = c.args.dealt.now.members.items in

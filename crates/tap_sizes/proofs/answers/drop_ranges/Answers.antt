@@ -5,7 +5,7 @@ use Rattle.tap_sizes.proofs.Members.{one_range_more}
 use Rattle.tap_sizes.proofs.answers.drop_ranges.Goals as goal
 
 pub loop-arrivals-preserved : goal.loop-arrivals-preserved
-loop-arrivals-preserved c =
+loop-arrivals-preserved g c =
     let clocks : Clocks =
     record { pace = c.args.pace.now; stalls = c.args.stalls.now; end = c.args.dealt.now.end } in
     let value = c.deref-arrivals-items.ensures.value in

@@ -4,6 +4,6 @@ use Rattle.tap_sizes.specs.inside.Passes.{AreFirstMost}
 use Rattle.tap_sizes.proofs.answers.least_rings.Given as goal
 
 abbrev pub invariant-loop-arrivals : goal.invariant-loop-arrivals
-invariant-loop-arrivals l =
+invariant-loop-arrivals g l =
     AreFirstMost l.room (record { pace = l.pace; stalls = l.stalls; end = l.dealt.end }) l.tries
     (take l.arrivals-index l.dealt.members.items) l.rings

@@ -5,20 +5,20 @@ use Rattle.tap_sizes.proofs.ReadFrames.{deal_early, end_is}
 use Rattle.tap_sizes.proofs.searches.measure.Goals as goal
 
 pub answers_of-requires-clause-answered : goal.answers_of-requires-clause-answered
-answers_of-requires-clause-answered c = (answerable c.args.reader.now c.requires.answered).pace
+answers_of-requires-clause-answered g c = (answerable c.args.reader.now c.requires.answered).pace
 
 pub answers_of-requires-clause-blocks : goal.answers_of-requires-clause-blocks
-answers_of-requires-clause-blocks c = (answerable c.args.reader.now c.requires.answered).blocks
+answers_of-requires-clause-blocks g c = (answerable c.args.reader.now c.requires.answered).blocks
 
 pub answers_of-requires-clause-some : goal.answers_of-requires-clause-some
-answers_of-requires-clause-some c =
+answers_of-requires-clause-some g c =
     let count = c.in_ok-dealt.ensures.count in
     let some = c.members-members.ensures.some in
     let value = c.members-members.ensures.value in
     omega (arith, count, some, value)
 
 pub answers_of-requires-clause-early : goal.answers_of-requires-clause-early
-answers_of-requires-clause-early c =
+answers_of-requires-clause-early g c =
     let read = c.requires.read in
     let soon : c.in_ok-dealt.dealt.end < 2 ^ 53 = search rules in
     deal_early c.args.job.now c.args.reader.now read.bytes c.args.reads.deals.items
@@ -28,7 +28,7 @@ answers_of-requires-clause-early c =
     c.in_ok-dealt.ensures soon
 
 pub returns-then-lasts_too_long : goal.returns-then-lasts_too_long
-returns-then-lasts_too_long c = λ old new bytes read.
+returns-then-lasts_too_long g c = λ old new bytes read.
     let long : 4294967295 * 1000000 < c.in_ok-dealt.dealt.end = search rules in
     let same = end_is c.args.job.now bytes c.args.reads.deals.items c.in_ok-dealt.dealt
     (marks_of old new c.args.job.now c.args.reader.now.more bytes c.args.reads.files
@@ -37,7 +37,7 @@ returns-then-lasts_too_long c = λ old new bytes read.
     (refl, omega (arith, long, same))
 
 pub returns : goal.returns
-returns c = λ old new bytes read.
+returns g c = λ old new bytes read.
     let job = c.args.job.now in
     let reader = c.args.reader.now in
     let answered = c.in_ok-report.ensures in
