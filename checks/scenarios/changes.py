@@ -5,6 +5,8 @@ Each line of a scenario that says what comes of its command is changed in one nu
 and the scenario carried out with it: the runner has to name it."""
 from __future__ import annotations
 
+import functools
+import os
 import re
 import subprocess
 import tempfile
@@ -12,11 +14,27 @@ from collections.abc import Iterable, Iterator
 from dataclasses import dataclass
 from pathlib import Path
 
-from scenarios.texts import Lines, Scenario
+import pytest
+
+from places import TOP
+from scenarios.texts import Document, Lines, Mistake, Scenario
 
 EXPECTED = ("status", ">", "taken", "cpu", "member", "sent", "file", "fields", "part")
 LIMIT = 150_000  # the bytes of a file that the runner reads at once
 TIME = 300  # the seconds in which it has to end
+RUNNER = Path(
+    os.environ.get("SCENARIO_RUNS", TOP / "crates/scenario_runs/out/scenario_runs")
+).resolve()
+
+
+@functools.cache
+def runner() -> Path:
+    if not RUNNER.is_file():
+        pytest.fail(
+            f"{RUNNER} isn't built: `rt run` in crates/scenario_runs builds it, and SCENARIO_RUNS "
+            "names another"
+        )
+    return RUNNER
 
 
 @dataclass(frozen=True)
@@ -129,15 +147,42 @@ def named(runner: Path, batch: list[Changed]) -> set[int]:
         )
     return {
         int(number)
-        for number in re.findall(r"^differs: (\d+) ", ran.stdout.decode(), re.MULTILINE)
+        for number in re.findall(r"^changed\.txt:\d+: (\d+) ", ran.stdout.decode(), re.MULTILINE)
     }
 
 
+def mistake(one: Changed) -> str:
+    """What is wrong with the text of a scenario; empty where nothing is."""
+    try:
+        Document(Path("changed.txt"), one.text(0)).scenarios()
+    except Mistake as found:
+        return str(found)
+    return ""
+
+
+def is_told(runner: Path, one: Changed, what: str) -> bool:
+    """Whether the runner tells the same of a scenario whose text is wrong."""
+    with tempfile.TemporaryDirectory() as room:
+        (Path(room) / "changed.txt").write_text(one.text(0), encoding="ascii")
+        ran = subprocess.run(
+            [runner, "said", "changed.txt"], cwd=room, capture_output=True, timeout=TIME,
+            check=False
+        )
+    return ran.stdout.decode() == what + "\n"
+
+
 def wrong(runner: Path, every: Iterable[Changed], is_noticed: bool) -> list[str]:
-    """The scenarios that the runner takes in another way than it has to."""
+    """The scenarios that the runner takes in another way than it has to. A number that makes a
+    text wrong is noticed by the sentence that tells it."""
     said = "not noticed" if is_noticed else "differs unchanged"
-    found = []
-    for batch in batches(every):
+    found, readable = [], []
+    for one in every:
+        what = mistake(one)
+        if not what:
+            readable.append(one)
+        elif not is_noticed or not is_told(runner, one, what):
+            found.append(f"{what}: {one.name}: {one.what}")
+    for batch in batches(readable):
         names = named(runner, batch)
         found += [
             f"{said}: {one.name}: {one.what}" for at,

@@ -13,7 +13,7 @@ import pytest
 
 from second.setup import Setup
 from scenarios import worked
-from scenarios.test_scenarios import runner
+from scenarios.changes import runner
 from scenarios.texts import Document, Scenario, scenarios
 
 hypothesis = pytest.importorskip(

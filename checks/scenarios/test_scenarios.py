@@ -4,8 +4,6 @@ and the program that carries them out in memory finds nothing that differs, noti
 of theirs that is changed, and keeps the whole records of each capture that is cut."""
 from __future__ import annotations
 
-import functools
-import os
 import subprocess
 from pathlib import Path
 
@@ -18,9 +16,6 @@ from scenarios.texts import Document, Scenario, scenarios
 DATA = sorted((TOP / "crates/scenario_runs/data").glob("*.txt"))
 EVERY = {f"{path.stem}: {scenario.name}": scenario for path in DATA for scenario in scenarios(path)}
 CUTS = {scenario.name: scenario for scenario in Document(Path("cuts.txt"), cuts.text()).scenarios()}
-RUNNER = Path(
-    os.environ.get("SCENARIO_RUNS", TOP / "crates/scenario_runs/out/scenario_runs")
-).resolve()
 
 
 @pytest.mark.parametrize("name", EVERY | CUTS)
@@ -39,32 +34,22 @@ def test_cuts_carried_out(program: Path) -> None:
     assert {name: found for name in CUTS if (found := worked.checked(CUTS[name], program))} == {}
 
 
-@functools.cache
-def runner() -> Path:
-    if not RUNNER.is_file():
-        pytest.fail(
-            f"{RUNNER} isn't built: `rt run` in crates/scenario_runs builds it, and SCENARIO_RUNS "
-            "names another"
-        )
-    return RUNNER
-
-
 @pytest.mark.parametrize("path", DATA, ids=[path.name for path in DATA])
 def test_in_memory(path: Path) -> None:
     """By the runner: nothing differs, and each number that is changed does."""
     every: list[Scenario] = scenarios(path)
     whole = [changes.Changed(one.name, "nothing", changes.whole(one)) for one in every]
-    assert changes.wrong(runner(), whole, False) == []
+    assert changes.wrong(changes.runner(), whole, False) == []
     assert changes.wrong(
-        runner(), [change for one in every for change in changes.changes(one)], True
+        changes.runner(), [change for one in every for change in changes.changes(one)], True
     ) == []
 
 
 def test_cuts_in_memory(room: Path) -> None:
     (room / "cuts.txt").write_text(cuts.text(), encoding="ascii")
     done = subprocess.run(
-        [runner(), "said", "cuts.txt"], cwd=room, capture_output=True, text=True, timeout=600,
-        check=False
+        [changes.runner(), "said", "cuts.txt"], cwd=room, capture_output=True, text=True,
+        timeout=600, check=False
     )
     assert done.stdout == f"cuts.txt: {len(CUTS)} scenarios, 0 differ\n"
     assert len(CUTS) == 253

@@ -7,24 +7,21 @@ lines, files, tries and notes.
 from __future__ import annotations
 
 import re
-from collections.abc import Iterator
+from collections.abc import Callable, Iterator
 from dataclasses import dataclass
 from pathlib import Path
 
 from places import TOP
 from second import capture_bytes
 from second.capture_bytes import record
-from scenarios.fields import field_bytes, wrong_names
+from scenarios.fields import field_bytes
+from scenarios.forms import WORDS, Slip, check_value, key_of, member_parts, parted
 from scenarios.spelling import meant
 
 Lines = list[str]
 
 TEXTS = {"filter": "f.ddd", "sched": "sched", "ticks": "t.txt"}
 LARGEST_CAPTURE = 33_554_432
-WORDS = (
-    "> absent base bytes conf cpu cut endless fail faults fields file filter frames half hold like "
-    "member part pcap pieces plain poor raw report run sched sent status tail taken ticks with"
-).split()
 # The words of a setup, as the first table of docs/reference.md has them.
 SETUP_WORDS = re.findall(
     r"^\| `(\w+)",
@@ -76,27 +73,18 @@ class Scenario:
     def __init__(self, name: Line, layers: list[list[Line]]) -> None:
         self.name, self.layers = name, layers
 
-    def line_of(self, word: str, text: str = "") -> Line:
-        """The first line of a word that has this text; the name where there is none."""
-        lines = (
-            line
-            for layer in self.layers
-            for line in layer if line.split()[0] == word and text in line
-        )
-        return next(lines, self.name)
+    def lines_of(self, word: str) -> list[tuple[Line, str]]:
+        """The values of a word, each with its line: those of its own lines, or else those of the
+        one that it is like. A line with the word alone says that there is nothing."""
+        for lines in self.layers:
+            found = [line for line in lines if line.word() == word]
+            if found:
+                return [(line, part) for line in found for part in line.parts() if part]
+        return []
 
     def values(self, word: str) -> Lines:
-        """What is said of a word, between bars: by its own lines, or else by those of the one
-        that it is like. A line with the word alone says that there is nothing."""
-        for lines in self.layers:
-            found = [line.strip().partition(" ")[2] for line in lines if line.split()[0] == word]
-            if found:
-                return [
-                    part.strip()
-                    for value in found
-                    for part in value.split(" | ") if part.strip()
-                ]
-        return []
+        """What is said of a word, between bars."""
+        return [value for _, value in self.lines_of(word)]
 
     def value(self, word: str, default: str = "") -> str:
         return (self.values(word) or [default])[0]
@@ -123,7 +111,7 @@ class Scenario:
     def frame(self, index: int, word: str) -> bytes:
         name, _, length = word.rpartition(":")
         front = bytes.fromhex(self.named("bytes")[name]) if name else b""
-        return front.ljust(int(length), bytes([index % 256]))
+        return front.ljust(int(length), bytes([index if index < 256 else 0]))
 
     def frames(self, words: Lines) -> list[bytes]:
         single = [frame for word in words for frame in repeated(word)]
@@ -175,15 +163,9 @@ class Scenario:
 
     def printed_by(self) -> list[Line]:
         """For each printed line the one that says it."""
-        layer = next(
-            (lines for lines in self.layers if any(line.split()[0] == ">" for line in lines)), []
-        )
-        said = [line for line in layer if line.split()[0] == ">"]
         return [
             line
-            for line in said
-            for part in line.split(" | ")
-            for _ in repeated_line(part.strip()).splitlines()
+            for line, part in self.lines_of(">") for _ in repeated_line(part).splitlines()
         ]
 
     def printed(self) -> str:
@@ -232,13 +214,12 @@ class Scenario:
     def members(self) -> list[Member]:
         found = []
         for value in self.values("member"):
-            front, _, blocks = value.partition(" blocks ")
-            front, _, kept = front.partition(" kept ")
+            notes, kept, blocks = member_parts(parted(value)[1])
             parts = [block.split(":") for word in blocks.split() for block in repeated(word)]
             output = self.records(kept.split(), 1, 2_000)
             found.append(
                 Member(
-                    front.split()[1], output,
+                    notes, output,
                     [(int(status), int(length)) for status, length in parts]
                 )
             )
@@ -259,8 +240,6 @@ class Scenario:
             yield name, int(at), bytes_of(digits), value
         for value in self.values("fields"):
             name, at, struct, *pairs = value.split()
-            if len(pairs) % 2 == 1:
-                raise ValueError(f"the field {pairs[-1]} has no value")
             for field, number in zip(pairs[::2], pairs[1::2]):
                 place, data = field_bytes(struct, field, number)
                 yield name, int(at) + place, data, f"{name} {at} {struct} {field} {number}"
@@ -279,8 +258,8 @@ class Scenario:
 class Mistake(ValueError):
     """What is wrong with a file, after its name and the line."""
 
-    def __init__(self, path: Path, number: int, what: str) -> None:
-        super().__init__(f"{path}:{number}: {what}")
+    def __init__(self, path: Path, number: int | None, what: str) -> None:
+        super().__init__(f"{path}:{number}: {what}" if number else f"{path}: {what}")
 
 
 class Line(str):
@@ -293,22 +272,126 @@ class Line(str):
         line.number = number
         return line
 
+    def word(self) -> str:
+        return parted(self)[0]
+
+    def parts(self) -> Lines:
+        """What follows the word, between bars; one empty part where nothing does."""
+        value = parted(self)[1]
+        return [part.strip() for part in value.split(" | ") if part.strip() or not value]
+
 
 def paragraphs(text: str) -> list[list[Line]]:
     """The lines of each scenario, the first of which is its name. A line that begins with `#` is
     a comment, wherever it stands."""
     parts: list[list[Line]] = [[]]
     for number, line in enumerate(text.split("\n"), 1):
-        if not line:
+        if not line.strip():
             parts.append([])
-        elif not line.lstrip().startswith("#"):
-            parts[-1].append(Line(number, line))
+        elif not line.strip().startswith("#"):
+            parts[-1].append(Line(number, line.rstrip()))
     return [part for part in parts if part]
 
 
 def base_of(like: Line) -> str:
     """The name after the word of a line `like`."""
-    return like.strip().partition(" ")[2].strip()
+    return like.parts()[0]
+
+
+def check_bytes(words: str) -> None:
+    for byte in words.encode():
+        if not 32 <= byte <= 126:
+            raise Slip(f"the byte {byte} is no printable ASCII")
+
+
+def check_name(name: Line) -> None:
+    if name.startswith(" "):
+        raise Slip("a scenario begins with its name, without a blank before it")
+    check_bytes(name)
+
+
+def check_line(line: Line) -> None:
+    word = line.word()
+    check_bytes(word)
+    for value in line.parts():
+        check_bytes(value)
+        if word not in WORDS:
+            raise Slip(f'"{word}" is no word of a scenario{meant(word, WORDS)}')
+        check_value(word, value)
+
+
+def check_keys(before: list[Line], line: Line) -> None:
+    """No line before a line, nor the line itself, says what the line says a second time."""
+    stands: dict[tuple[str, str], int] = {}
+    for other in [*before, line]:
+        for value in other.parts():
+            key = other.word(), key_of(other.word(), value)
+            if key in stands and other is line and key[1] is not None:
+                what = " ".join(filter(None, key))
+                raise Slip(f'"{what}" stands at line {stands[key]} already')
+            stands.setdefault(key, other.number)
+
+
+# ---- what the lines of a scenario say together
+
+
+def check_order(word: str, due: int, value: str) -> None:
+    index = parted(value)[0]
+    if int(index) != due:
+        raise Slip(f'"{word} {index}" stands where "{word} {due}" is due')
+
+
+def check_setup(value: str) -> None:
+    word = parted(value)[0]
+    if not word.startswith("#") and word not in SETUP_WORDS:
+        raise Slip(f'"{word}" is no word of a setup{meant(word, SETUP_WORDS)}')
+
+
+def check_file(scenario: Scenario, word: str, name: str) -> None:
+    pcaps, raws = list(scenario.named("pcap")), list(scenario.named("raw"))
+    texts, calls = ["conf", "f.ddd", "sched", "t.txt"], ["fetch", "save", "write"]
+    allowed = {
+        "tail": set(pcaps) - set(raws),
+        "cut": {*pcaps, *raws},
+        "endless": {*pcaps, *raws},
+        "pieces": {*pcaps, *raws, *texts},
+        "fail": {*pcaps, *raws, *texts, *calls},
+    }.get(word, {name})
+    if name and name not in allowed:
+        near = meant(name, [*pcaps, *raws, *texts, *calls])
+        raise Slip(f'"{name}" is no file that may stand here{near}')
+
+
+def check_fronts(scenario: Scenario, words: str) -> None:
+    known = scenario.named("bytes")
+    for word in words.split():
+        name, colon, _ = word.partition(":")
+        if colon and name and name not in known:
+            raise Slip(f'no line "bytes" has the name "{name}"{meant(name, known)}')
+
+
+def check_kept(scenario: Scenario, words: str) -> None:
+    captures = [value.partition(" ")[2] for value in scenario.values("pcap")] or [""]
+    for word in words.split():
+        capture, dot, indices = word.partition("/")[0].partition(".")
+        last = int((indices if dot else capture).rpartition("-")[2])
+        frames = captures[int(capture):][:1] if dot else [scenario.value("frames") or captures[0]]
+        count = sum(len(repeated(frame)) for frame in "".join(frames).split())
+        if last >= count:
+            raise Slip(f'"{word}" is kept of {count} frames, from 0 on')
+
+
+def check_named(scenario: Scenario, word: str, value: str) -> None:
+    """What a value names of the scenario is there."""
+    rest = parted(value)[1]
+    if word == "pcap":
+        check_fronts(scenario, rest)
+    elif word == "frames":
+        check_fronts(scenario, value)
+    elif word == "sent":
+        check_kept(scenario, rest)
+    elif word == "member":
+        check_kept(scenario, member_parts(rest)[1])
 
 
 class Document:
@@ -317,34 +400,36 @@ class Document:
     def __init__(self, path: Path, text: str) -> None:
         self.path, self.lines = path, dict[str, list[Line]]()
         self.names: list[Line] = []
-        for name, *lines in paragraphs(text):
-            if name in self.lines:
-                first = next(other.number for other in self.names if other == name)
-                raise Mistake(
-                    path, name.number, f'the name "{name}" stands at line {first} already'
-                )
-            self.names.append(name)
+        parts = paragraphs(text)
+        for name, *_ in parts:
+            self.add_name(name)
+        for name, *lines in parts:
             self.lines[name] = lines
-        for name, lines in self.lines.items():
-            self.check_words(lines)
+        for name, *lines in parts:
+            for at, line in enumerate(lines):
+                self.checked(line, check_line, line)
+                self.checked(line, check_keys, lines[:at], line)
             self.layers(name)
 
-    def check_words(self, lines: list[Line]) -> None:
-        for line in lines:
-            word, *values = line.split()
-            if word not in WORDS:
-                raise Mistake(
-                    self.path, line.number, f'"{word}" is no word of a scenario{meant(word, WORDS)}'
-                )
-            if word == "fields":
-                for value in " ".join(values).split(" | "):
-                    for what in wrong_names(value.split()):
-                        raise Mistake(self.path, line.number, what)
+    def checked(self, line: Line, check: Callable[..., None], *words: object) -> None:
+        """Checks something, whose slip is a mistake in a line."""
+        try:
+            check(*words)
+        except Slip as slip:
+            raise Mistake(self.path, line.number, str(slip)) from None
+
+    def add_name(self, name: Line) -> None:
+        self.checked(name, check_name, name)
+        for other in self.names:
+            if other == name:
+                what = f'the name "{name}" stands at line {other.number} already'
+                raise Mistake(self.path, name.number, what)
+        self.names.append(name)
 
     def layers(self, name: str) -> list[list[Line]]:
         """The lines of a scenario, and those of the ones that it is like: two steps at most."""
         layers, likes = [self.lines[name]], list[Line]()
-        while like := next((line for line in layers[-1] if line.split()[0] == "like"), None):
+        while like := next((line for line in layers[-1] if line.word() == "like"), None):
             base = base_of(like)
             if base not in self.lines:
                 raise Mistake(
@@ -362,39 +447,33 @@ class Document:
         """Those that are carried out, in order."""
         named = {
             name
-            for name in self.names if not any(line.split() == ["base"] for line in self.lines[name])
+            for name in self.names if not any(line.word() == "base" for line in self.lines[name])
         }
         found = [Scenario(name, self.layers(name)) for name in self.names if name in named]
         for scenario in found:
-            self.check_order(scenario)
-            self.check_setup(scenario)
+            self.check(scenario)
         return found
 
-    def check_order(self, scenario: Scenario) -> None:
+    def check(self, scenario: Scenario) -> None:
+        """What the lines of a scenario say together is right."""
         for word in ("cpu", "member"):
-            indices = [value.split()[0] for value in scenario.values(word)]
-            if indices != [str(at) for at in range(len(indices))]:
-                line = scenario.line_of(word)
-                raise Mistake(
-                    self.path, line.number,
-                    f'the lines "{word}" are {", ".join(indices)}, and 0, 1 and so on is the order'
-                )
-
-    def check_setup(self, scenario: Scenario) -> None:
-        """The setup of a scenario that isn't refused has known words alone."""
-        if scenario.status() in (1, 2):
-            return
-        for word in ("conf", "with"):
-            for line in scenario.text(word).splitlines():
-                first = (line.split() or ["#"])[0]
-                if not first.startswith("#") and first not in SETUP_WORDS:
-                    place = scenario.line_of(word, first).number
-                    raise Mistake(
-                        self.path, place,
-                        f'"{first}" is no word of a setup{meant(first, SETUP_WORDS)}'
-                    )
+            for due, (line, value) in enumerate(scenario.lines_of(word)):
+                self.checked(line, check_order, word, due, value)
+        if scenario.value("status").partition(" ")[0] not in ("1", "2"):
+            for line, value in [*scenario.lines_of("conf"), *scenario.lines_of("with")]:
+                self.checked(line, check_setup, value)
+        for line in scenario.layers[0]:
+            for value in line.parts():
+                self.checked(line, check_file, scenario, line.word(), parted(value)[0])
+        for word in ("pcap", "frames", "sent", "member"):
+            for line, value in scenario.lines_of(word):
+                self.checked(line, check_named, scenario, word, value)
 
 
 def scenarios(path: Path) -> list[Scenario]:
     """The scenarios of a file that are carried out, in order."""
-    return Document(path, path.read_text(encoding="ascii")).scenarios()
+    try:
+        text = path.read_bytes().decode()
+    except (OSError, UnicodeDecodeError):
+        raise Mistake(path, None, "it can't be read") from None
+    return Document(path, text).scenarios()

@@ -1,5 +1,5 @@
 //! A run of a scenario, and what fails in it.
-use crate::lines::{Scenario, call_number, number, parted};
+use scenario_texts::{Scenario, call_number, number, parted};
 use std::alloc::Global;
 
 /// The most bytes that one read of a file gives.
@@ -29,6 +29,11 @@ impl<'a> Fault<'a> {
             piece: WHOLE,
         }
     }
+
+    /// Whether nothing fails beside what the scenario says.
+    pub(crate) fn is_whole(&self) -> bool {
+        self.word == "whole"
+    }
 }
 
 /// A run of a scenario.
@@ -36,6 +41,8 @@ impl<'a> Fault<'a> {
 pub(crate) struct Case<'a> {
     /// What gives memory for all that it takes.
     pub(crate) alloc: Global,
+    /// The name of the file of its scenario.
+    pub(crate) path: &'a str,
     /// The scenario.
     pub(crate) scenario: Scenario<'a>,
     /// Whether the setup has one more line by which blocks are dumped.
@@ -56,9 +63,10 @@ pub(crate) fn has_number(words: &str, number: u64) -> bool {
 
 impl<'a> Case<'a> {
     /// A scenario as it is.
-    pub(crate) fn new(alloc: Global, scenario: &Scenario<'a>) -> Case<'a> {
+    pub(crate) fn new(alloc: Global, path: &'a str, scenario: &Scenario<'a>) -> Case<'a> {
         Case {
             alloc,
+            path,
             scenario: *scenario,
             dump: false,
             fault: Fault::of("whole", ""),

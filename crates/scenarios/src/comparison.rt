@@ -1,11 +1,10 @@
 //! How a scenario's run differs from what the scenario says.
 use crate::cases::{Case, is_dumped_too};
 use crate::gates::ScriptGate;
-use crate::lines::{Scenario, number};
 use crate::runs::{Answer, Ran, is_on_threads};
 use crate::saved::After;
 use frame_view::Memory;
-use std::alloc::Global;
+use scenario_texts::{Line, number, push_diff, repeated_line};
 use std::sync::Wait;
 use std::thread::Threads;
 
@@ -38,6 +37,21 @@ pub(crate) struct Wanted<'a> {
     /// Whether a capture can't be read to its end, so that the counts of the lines and the files
     /// are others than the scenario says.
     pub(crate) is_cut: bool,
+}
+
+impl<'a> Wanted<'a> {
+    /// The lines as far as they are printed.
+    fn front(&self) -> &'a str {
+        self.lines.get(..self.taken).unwrap_or(self.lines)
+    }
+}
+
+/// How often a line of a report or a printed one stands there.
+fn times_of(line: &Line<'_>) -> usize {
+    match line.word {
+        ">" => repeated_line(line.text).1,
+        _ => 1,
+    }
 }
 
 /// Whether lines have these words, of which a star is any one.
@@ -101,8 +115,7 @@ impl<'a> Case<'a> {
 
     /// What the run has to come to, as one text.
     fn wanted_text(&self, wanted: &Wanted<'_>) -> Result<String, Memory> {
-        let front = wanted.lines.get(..wanted.taken).unwrap_or(wanted.lines);
-        let mut text = format!(in self.alloc; "{}\n{front}", wanted.status)?;
+        let mut text = format!(in self.alloc; "{}\n{}", wanted.status, wanted.front())?;
         if wanted.status.starts_with('7') {
             text.push_str("out of memory\n")?;
         }
@@ -112,6 +125,37 @@ impl<'a> Case<'a> {
             Reported::Absent => {}
         }
         Ok(text)
+    }
+
+    /// Appends the number of each line with a word, as often as the line is repeated.
+    fn push_numbers(&self, numbers: &mut Vec<usize>, word: &str) -> Result<(), Memory> {
+        for line in self.scenario.values(self.alloc, word)?.as_slice() {
+            for _ in 0..times_of(line) {
+                numbers.push(line.number)?;
+            }
+        }
+        Ok(())
+    }
+
+    /// The numbers of the lines that say each line of what the run has to come to. In a sweep the
+    /// scenario doesn't say them itself, so there are none.
+    fn line_numbers(&self, wanted: &Wanted<'_>) -> Result<Vec<usize>, Memory> {
+        let mut numbers = Vec::new(self.alloc);
+        if !self.fault.is_whole() {
+            return Ok(numbers);
+        }
+        numbers.push(self.scenario.number("status"))?;
+        self.push_numbers(&mut numbers, ">")?;
+        numbers.truncate(wanted.front().split('\n').count());
+        match wanted.reported {
+            Reported::Said => {
+                self.push_numbers(&mut numbers, "cpu")?;
+                self.push_numbers(&mut numbers, "member")?;
+            }
+            Reported::Any => numbers.push(self.scenario.number("report"))?,
+            Reported::Absent => {}
+        }
+        Ok(numbers)
     }
 
     /// What the run came to, in the same form: of the status as many bytes as are said; on threads
@@ -148,7 +192,13 @@ impl<'a> Case<'a> {
         let wanted_text = self.wanted_text(wanted)?;
         let found = self.found_text(wanted, answer, printed)?;
         if wanted_text.as_str() != found.as_str() {
-            write!(text, "wanted:\n{wanted_text}\nfound:\n{found}\n")?;
+            let numbers = self.line_numbers(wanted)?;
+            push_diff(
+                text,
+                numbers.as_slice(),
+                wanted_text.as_str(),
+                found.as_str(),
+            )?;
         }
         Ok(())
     }
@@ -185,18 +235,13 @@ impl<'a> Case<'a> {
 
 /// Carries out a scenario as it is, and with its blocks dumped: how the run differs from it; empty
 /// if it doesn't.
-pub fn differences<R: Threads + Wait + Sync>(
+pub(crate) fn differences<R: Threads + Wait + Sync>(
     rt: &R,
-    alloc: Global,
-    scenario: &Scenario<'_>,
+    whole: &Case<'_>,
 ) -> Result<String, Memory> {
-    let mut text = String::new(alloc);
-    let mut case = Case::new(alloc, scenario);
-    let line = scenario.unread();
-    if !line.is_empty() {
-        write!(text, "the line can't be read: {line}\n")?;
-    }
-    let is_twice = is_dumped_too(scenario) && !case.is_dumped()?;
+    let mut text = String::new(whole.alloc);
+    let mut case = *whole;
+    let is_twice = is_dumped_too(&case.scenario) && !case.is_dumped()?;
     for _ in 0..if is_twice { 2 } else { 1 } {
         let gate = ScriptGate::new(&case)?;
         case.push_run(rt, &mut text, &gate)?;

@@ -1,16 +1,7 @@
 //! The report that a scenario says, in the form in which it is compared.
-use crate::captures::{count_of, kept_of};
 use crate::cases::Case;
-use crate::lines::{number, parted};
 use frame_view::Memory;
-
-/// The parts of a member's line after its number: its notes, and the words of the frames and of the
-/// blocks that it kept.
-pub(crate) fn member_of(value: &str) -> (&str, &str, &str) {
-    let (front, blocks) = value.split_once(" blocks ").unwrap_or((value, ""));
-    let (notes, kept) = front.split_once(" kept ").unwrap_or((front, ""));
-    (notes.trim(), kept, blocks)
-}
+use scenario_texts::{count_of, kept_of, member_of, number, parted};
 
 /// How many frames the words of a member say.
 fn frames_of(words: &str) -> usize {
@@ -38,7 +29,7 @@ impl<'a> Case<'a> {
         let (tries, given) = value.split_once(" given ").unwrap_or((value, ""));
         let tries = if tries == "-" { "" } else { tries };
         if given.is_empty() {
-            let (name, _) = self.nth_capture(cpu)?;
+            let (name, _) = self.scenario.nth_capture(cpu);
             write!(text, "{tries} {}\n", self.capture(name)?.len())?;
         } else {
             write!(text, "{tries} {given}\n")?;
@@ -50,7 +41,7 @@ impl<'a> Case<'a> {
     fn push_lines(&self, text: &mut String, word: &str) -> Result<(), Memory> {
         let values = self.scenario.values(self.alloc, word)?;
         for (due, value) in values.as_slice().iter().enumerate() {
-            let (index, value) = parted(value);
+            let (index, value) = parted(value.text);
             if number(index) != due {
                 write!(text, "not {word} {due}: ")?;
             }

@@ -1,17 +1,8 @@
 //! The files that a scenario gives, and the stores that have them.
 use crate::cases::Case;
-use crate::lines::parted;
 use frame_view::{Memory, MomentList};
+use scenario_texts::{parted, repeated_line};
 use tap_outside::{MemStore, SureStore};
-
-/// A line, and how often it is repeated: as often as its last word says, if that is `xN`.
-fn repeated_line(line: &str) -> (&str, usize) {
-    let (front, last) = line.rsplit_once(' ').unwrap_or(("", line));
-    match last.strip_prefix("x").unwrap_or("").parse::<usize>() {
-        Ok(times) => (front.trim(), times.min(4096)),
-        Err(_) => (line, 1),
-    }
-}
 
 /// Appends a line with its end.
 pub(crate) fn push_line(text: &mut String, line: &str) -> Result<(), Memory> {
@@ -33,7 +24,7 @@ impl<'a> Case<'a> {
     pub(crate) fn text(&self, word: &str) -> Result<String, Memory> {
         let mut text = String::new(self.alloc);
         for value in self.scenario.values(self.alloc, word)?.as_slice() {
-            push_repeated(&mut text, value)?;
+            push_repeated(&mut text, value.text)?;
         }
         Ok(text)
     }
@@ -79,7 +70,7 @@ impl<'a> Case<'a> {
     /// Appends the name that each line of a word says.
     fn push_names(&self, names: &mut Vec<&'a str>, word: &str) -> Result<(), Memory> {
         for value in self.scenario.values(self.alloc, word)?.as_slice() {
-            names.push(parted(value).0)?;
+            names.push(parted(value.text).0)?;
         }
         Ok(())
     }

@@ -1,8 +1,8 @@
 //! A gate that holds threads as a scenario says.
 use crate::cases::Case;
-use crate::lines::{number, parted};
 use cpu_feeders::{Gate, Point};
 use frame_view::Memory;
+use scenario_texts::{number, parted};
 use std::sync::atomic::{AtomicU64, Ordering};
 use std::thread;
 
@@ -56,7 +56,7 @@ fn place_at(point: Point) -> GatePlace {
 fn holds_of(case: &Case<'_>) -> Result<Vec<(GatePlace, GatePlace)>, Memory> {
     let mut holds = Vec::new(case.alloc);
     for value in case.scenario.values(case.alloc, "hold")?.as_slice() {
-        let (held, until) = value.split_once(" until ").unwrap_or((value, ""));
+        let (held, until) = value.text.split_once(" until ").unwrap_or((value.text, ""));
         holds.push((place_of(held), place_of(until)))?;
     }
     Ok(holds)

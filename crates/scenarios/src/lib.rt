@@ -7,7 +7,6 @@ mod comparison;
 mod expected;
 mod files;
 mod gates;
-mod lines;
 mod reports;
 mod runs;
 mod saved;
@@ -16,7 +15,5 @@ mod sweeps;
 mod texts;
 
 pub use captures::push_fields;
-pub use comparison::differences;
-pub use lines::Scenario;
 pub use runs::{Answer, answer_of, outcome_on_threads};
-pub use texts::{Counted, carry_out_text};
+pub use texts::{Counted, Ways, carry_out_text};

@@ -3,11 +3,11 @@ ghost use Rattle.std.specs.Prelude.{List, ℕ, IsTrue};
 
 use crate::cases::Case;
 use crate::gates::ScriptGate;
-use crate::lines::{Scenario, parted};
 use crate::reports::report_text;
 use crate::scripted::{Calls, ScriptSink, ScriptStore};
 use cpu_feeders::Gate;
 use frame_view::{Memory, MomentList};
+use scenario_texts::{Scenario, parted};
 use std::alloc::Global;
 use std::str;
 use std::sync::Wait;

@@ -1,10 +1,11 @@
 //! Whether the files after a command are as a scenario says.
-use crate::captures::{bytes_of, count_of, word_at};
 use crate::cases::Case;
 use crate::comparison::Wanted;
-use crate::expected::member_of;
-use crate::lines::{is_among, number, parted};
 use frame_view::Memory;
+use scenario_texts::{
+    Line, bytes_of, call_number, count_of, field_of, is_among, member_of, number, number_at,
+    parted, word_at,
+};
 use tap_outside::MemStore;
 
 /// The files after a command, and what is said of them.
@@ -51,6 +52,21 @@ fn after_part<'a>(bytes: &'a [u8], parts: DumpParts, word: &str) -> Option<&'a [
     if is_so { Some(rest) } else { None }
 }
 
+/// Appends a field that doesn't have the number that its line says.
+fn push_other(
+    text: &mut String,
+    line: usize,
+    (name, wanted): (&str, &str),
+    found: Option<u64>,
+) -> Result<(), Memory> {
+    match found {
+        Some(number) if number == call_number(wanted) => {}
+        Some(number) => write!(text, "    {line:>6} ! {name} {wanted}: it is {number}\n")?,
+        None => write!(text, "    {line:>6} ! {name} {wanted}: it isn't there\n")?,
+    }
+    Ok(())
+}
+
 /// Whether a dump consists of the parts of these words.
 fn is_dump_of(dump: &[u8], parts: DumpParts, words: &str) -> bool {
     let mut rest = dump;
@@ -66,7 +82,7 @@ fn is_dump_of(dump: &[u8], parts: DumpParts, words: &str) -> bool {
 impl<'a> After<'a> {
     /// Whether a file isn't to be there, or need not be.
     fn is_absent(&self, name: &str) -> bool {
-        is_among(self.case.scenario.value("absent"), name) || is_among(self.wanted.absent, name)
+        self.case.scenario.lists("absent", name) || is_among(self.wanted.absent, name)
     }
 
     /// The most bytes of a file.
@@ -143,11 +159,40 @@ impl<'a> After<'a> {
         }
     }
 
-    /// Appends the lines of a word that aren't so.
+    /// Appends the lines of a word that aren't so, each with its number.
     fn push_wrong_lines(&self, text: &mut String, word: &str) -> Result<(), Memory> {
-        for value in self.case.scenario.values(self.case.alloc, word)?.as_slice() {
-            if !self.is_so(word, value)? {
-                write!(text, "wrong: {word} {value}\n")?;
+        for line in self.case.scenario.values(self.case.alloc, word)?.as_slice() {
+            if !self.is_so(word, line.text)? {
+                write!(text, "    {:>6} ! {word} {}\n", line.number, line.text)?;
+            }
+        }
+        Ok(())
+    }
+
+    /// The bytes of a file whose fields are compared; none if they aren't.
+    fn compared(&self, name: &str) -> Option<&'a [u8]> {
+        let is_dump = name.ends_with(".blk") && !self.wanted.dump;
+        if is_dump || is_among(self.wanted.absent, name) {
+            return None;
+        }
+        Some(self.files.file(name.as_bytes()).unwrap_or(&[]))
+    }
+
+    /// Appends the fields of a line that have other numbers in the bytes of its file, or aren't
+    /// there.
+    fn push_wrong_fields(&self, text: &mut String, line: &Line<'a>) -> Result<(), Memory> {
+        let (name, rest) = parted(line.text);
+        let (at, rest) = parted(rest);
+        let (layout, pairs) = parted(rest);
+        let Some(bytes) = self.compared(name) else {
+            return Ok(());
+        };
+        let mut words = pairs.split_whitespace();
+        while let Some(name) = words.next() {
+            let wanted = words.next().unwrap_or("");
+            if let Some(field) = field_of(layout, name) {
+                let found = number_at(bytes, number(at), &field);
+                push_other(text, line.number, (name, wanted), found)?;
             }
         }
         Ok(())
@@ -158,8 +203,16 @@ impl<'a> After<'a> {
         for word in ["member", "sent", "file", "absent"] {
             self.push_wrong_lines(text, word)?;
         }
+        for line in self
+            .case
+            .scenario
+            .values(self.case.alloc, "fields")?
+            .as_slice()
+        {
+            self.push_wrong_fields(text, line)?;
+        }
         if !self.has_none(self.wanted.absent) {
-            write!(text, "wrong: absent {}\n", self.wanted.absent)?;
+            write!(text, "           ! absent {}\n", self.wanted.absent)?;
         }
         Ok(())
     }

@@ -3,9 +3,9 @@ ghost use Rattle.std.specs.Prelude.{◌≡◌, ◌≤◌, ◌<◌, [], length, r
 
 use crate::cases::{Case, has_number};
 use crate::files::push_line;
-use crate::lines::{call_number, number};
 use frame_view::{Memory, MomentList};
 use history::History;
+use scenario_texts::{call_number, number};
 use std::str;
 use tap_outside::{Failed, MemStore, OutError, Sink, Source, SourceLog, Store};
 

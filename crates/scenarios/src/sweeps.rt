@@ -54,7 +54,7 @@ fn check<R: Threads + Wait + Sync>(
     let mut wrong = String::new(case.alloc);
     let ran = case.run(rt, &ScriptGate::new(case)?)?;
     case.push_wrong(&mut wrong, wanted, &ran)?;
-    counted.push(case, wrong.as_str())?;
+    counted.push_sweep(case, wrong.as_str())?;
     Ok(ran.calls)
 }
 
@@ -71,7 +71,7 @@ fn check_surely<R: Threads + Wait + Sync>(
         let (answer, printed) = case.run_surely(rt)?;
         case.push_wrong_answer(&mut wrong, wanted, (&answer, printed.as_str()))?;
     }
-    counted.push(case, wrong.as_str())
+    counted.push_sweep(case, wrong.as_str())
 }
 
 impl<'a, R: Threads + Wait + Sync> Sweep<'a, R> {
