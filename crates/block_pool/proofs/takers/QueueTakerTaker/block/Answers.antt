@@ -9,7 +9,7 @@ use Rattle.block_pool.specs.Pieces.{work_taken}
 use Rattle.block_pool.specs.Takers.{HandingValue, works_taken}
 use Rattle.block_pool.proofs.Members.{handed_more}
 use Rattle.block_pool.proofs.Texts.{copied_text, copy_lawful, copy_says}
-use Rattle.block_pool.proofs.takers.HandingTaker.block.Goals as goal
+use Rattle.block_pool.proofs.takers.QueueTakerTaker.block.Goals as goal
 
 pub text_of-requires : goal.text_of-requires
 text_of-requires g c = c.requires.readable.text
