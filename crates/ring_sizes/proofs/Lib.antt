@@ -19,3 +19,4 @@ pub mod SameOrder
 pub mod Leeways
 pub mod Stretches
 pub mod Columns
+pub mod Quiets

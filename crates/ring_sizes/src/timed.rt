@@ -5,7 +5,7 @@ ghost use Rattle.ring_events.specs.declared.events.Happening.{Happening};
 ghost use Rattle.ring_sizes.specs.EventLists.{events_of};
 ghost use Rattle.ring_sizes.specs.Passes.{IsWithin, first_pass, passed_all};
 ghost use Rattle.ring_sizes.specs.Phases.{least_of};
-ghost use Rattle.ring_sizes.specs.Places.{place_at};
+ghost use Rattle.ring_sizes.specs.Places.{IsQuiet, place_at};
 ghost use Rattle.ring_sizes.specs.Rests.{after_last, after_next, read_to, rested};
 ghost use Rattle.ring_sizes.specs.Schedules.{IsPace, schedule_to, steps_before, tick_moment};
 ghost use Rattle.ring_sizes.specs.Schedules.{ticks_by};
@@ -84,6 +84,18 @@ pub fn timed_pass(
         pace.ticks_by(end),
         pace.steps_before(end + 1),
     )
+}
+
+impl Timing {
+    /// A moment; before a frame that comes before it, and after one at `at`, neither a tick nor a
+    /// step comes.
+    pub(crate) fn quiet_until(&self, at: u64) -> u64
+        requires sound { IsPace self.now }
+        requires early { at ≤ 2 ^ 53 }
+        ensures { IsQuiet self.now at result }
+    {
+        TimedPlace::new(self, at).until()
+    }
 }
 
 impl TimedPlace {

@@ -8,8 +8,9 @@ ghost use Rattle.ring_model.specs.Ring.{Size};
 ghost use Rattle.ring_model.specs.Rings.{fresh};
 ghost use Rattle.ring_sizes.specs.Courses.{IsSmall, all_went_on, course_stats, first_course};
 ghost use Rattle.ring_sizes.specs.EventLists.{events_of};
+ghost use Rattle.ring_sizes.specs.Places.{IsQuiet};
 ghost use Rattle.ring_sizes.specs.Rests.{course_last, course_read};
-ghost use Rattle.ring_sizes.specs.Schedules.{IsPace, awake, beats, schedule_to};
+ghost use Rattle.ring_sizes.specs.Schedules.{IsPace, awake, beats, beats_between, schedule_to};
 ghost use Rattle.ring_sizes.specs.Schedules.{steps_before, ticks_by};
 
 use crate::{Arrival, Course, Event, StallTime, Timing};
@@ -41,9 +42,10 @@ pub fn losses_at(
     let tov = u64::from(pace.tov);
     let mut course = Course::new(tov);
     let mut at = 0;
+    let mut until = pace.quiet_until(at);
     for arrival in arrivals {
         let next = at.max(arrival.at);
-        course.rest(blocks, pace, stalls, at, pace.ticks_by(next), next);
+        until = course.rest_between(blocks, pace, stalls, at, next, until);
         course.take(Event::Packet(arrival.need), room, blocks, tov);
         at = next;
     }
@@ -52,6 +54,36 @@ pub fn losses_at(
 }
 
 impl Course {
+    /// Takes what comes between two frames with these moments, and returns the moment up to which
+    /// nothing comes before the next frame. `until` is that of the first one.
+    fn rest_between(
+        &mut self,
+        blocks: u32,
+        pace: &Timing,
+        stalls: &[StallTime],
+        since: u64,
+        at: u64,
+        until: u64,
+    ) -> u64
+        requires sound { IsPace pace.now }
+        requires early { at < 2 ^ 53 }
+        requires later { since ≤ at }
+        requires quiet { IsQuiet pace.now since until }
+        requires small { IsSmall (2 ^ 62) self.old }
+        ensures goes { (room : ℕ) → self.new
+            ≡ all_went_on room blocks pace.now.tov (beats_between stalls.now pace.now since at)
+            self.old }
+        ensures small { (bound : ℕ) → IsSmall (bound + ticks_by pace.now since) self.old
+            → IsSmall (bound + ticks_by pace.now at) self.new }
+        ensures quiet { IsQuiet pace.now at result }
+    {
+        if at < until {
+            return until;
+        }
+        self.rest(blocks, pace, stalls, since, pace.ticks_by(at), at);
+        pace.quiet_until(at)
+    }
+
     /// Takes what the timer and the reader do from one moment on: the ticks up to this number, and
     /// the steps before another moment. It takes no longer than the ticks up to one that leaves an
     /// empty block.
