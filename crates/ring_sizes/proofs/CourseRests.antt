@@ -8,8 +8,8 @@ use Rattle.std.proofs.lemmas.List.{replicate-append-replicate}
 use Rattle.ring_sizes.specs.Courses.{IsSmall, all_went_on, at_due, is_empty, over_time}
 use Rattle.ring_sizes.specs.Rests.{course_last, course_read, is_still}
 use Rattle.ring_sizes.specs.Schedules.{IsPace, awake, beats, step_event, steps_before, steps_from, tick_moment, ticks_by}
-use Rattle.ring_sizes.specs.declared.courses.OpenBlock.{OpenBlock}
-use Rattle.ring_sizes.specs.declared.courses.OpenBlock.TheVariants.{Empty, Filled, Frozen}
+use Rattle.ring_sizes.specs.declared.courses.CourseBlock.{CourseBlock}
+use Rattle.ring_sizes.specs.declared.courses.CourseBlock.TheVariants.{Empty, Filled, Frozen}
 use Rattle.ring_sizes.specs.declared.courses.Course.{Course}
 use Rattle.ring_sizes.specs.declared.events.Event.{Event}
 use Rattle.ring_sizes.specs.declared.events.Event.TheVariants.{Tick}
@@ -38,7 +38,7 @@ due_by : (blocks tov ms : ℕ) (course : Course) (early : Bool) → early ≡ fa
     ≡ record course { clock = ms; deadline = ms + tov }
 due_by blocks tov ms course true e empty = absurd (grind (arith, common_steps, e))
 due_by blocks tov ms course false e empty =
-    ap (λ (block : OpenBlock). record (at_due blocks block course) { clock = ms; deadline = ms + tov }) empty
+    ap (λ (block : CourseBlock). record (at_due blocks block course) { clock = ms; deadline = ms + tov }) empty
 
 due_empty : (blocks tov ms : ℕ) (course : Course) → course.block ≡ Empty → course.deadline ≤ ms
     → over_time blocks tov ms course ≡ record course { clock = ms; deadline = ms + tov }
@@ -130,7 +130,7 @@ module _ (room blocks : ℕ) (stalls : List StallTime) (pace : Timing) (sound : 
       ∙ join since next at (at_tick last course) soon comes
       ∙ ap (read since at) (sym (due_empty blocks pace.tov (last * pace.tov) course empty (omega (arith, due, most))))
 
-  still_block : (block : OpenBlock) (due : Bool) → (is_empty block && due) ≡ true → (block ≡ Empty) × (due ≡ true)
+  still_block : (block : CourseBlock) (due : Bool) → (is_empty block && due) ≡ true → (block ≡ Empty) × (due ≡ true)
   still_block Empty due e = (refl, e)
   still_block Frozen due e = absurd (grind (arith, common_steps, e))
   still_block Filled due e = absurd (grind (arith, common_steps, e))

@@ -12,15 +12,15 @@ use Rattle.ring_model.specs.declared.notes.Note.TheVariants.{Kept}
 use Rattle.ring_model.specs.declared.notes.Offer.{Offer}
 use Rattle.ring_sizes.specs.Courses.{at_due, fed, has_space, is_free, opened}
 use Rattle.ring_sizes.specs.Courses.{over_time}
-use Rattle.ring_sizes.specs.declared.courses.OpenBlock.{OpenBlock}
-use Rattle.ring_sizes.specs.declared.courses.OpenBlock.TheVariants.{Frozen, Empty, Filled}
+use Rattle.ring_sizes.specs.declared.courses.CourseBlock.{CourseBlock}
+use Rattle.ring_sizes.specs.declared.courses.CourseBlock.TheVariants.{Frozen, Empty, Filled}
 use Rattle.ring_sizes.specs.declared.courses.Course.{Course}
 
 abbrev used_now : Option (List Offer) → ℕ
 used_now None = 0
 used_now (Some offers) = used_by offers
 
-abbrev block_of : Option (List Offer) → OpenBlock
+abbrev block_of : Option (List Offer) → CourseBlock
 block_of None = Frozen
 block_of (Some []) = Empty
 block_of (Some (offer ∷ offers)) = Filled
@@ -149,7 +149,12 @@ module _ (size : Size) where
       let a : used_by offers + need_of offer.snap ≡ used_by (offers ++ offer ∷ []) =
       sym (sum_by_push (λ (offer : Offer). need_of offer.snap) offers offer) in
       ap (λ (n : ℕ). record (course_of s back) { used = n; block = Filled; kept = kept + 1 }) a
-      ∙ ap (λ (b : OpenBlock). record (course_of s back) { used = used_by (offers ++ offer ∷ []); block = b; kept = kept + 1 })
+      ∙ ap (λ (b : CourseBlock). record (course_of s back) {
+        used = used_by
+            (offers ++ offer ∷ []);
+        block = b;
+        kept = kept + 1;
+      })
       (sym (pushed_filled offers offer))
 
   put_by_room : (room : Bool) (s : State) (back : ℕ) (offer : Offer) → has_room size (need_of offer.snap) s.now ≡ room

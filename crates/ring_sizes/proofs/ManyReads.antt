@@ -15,8 +15,8 @@ use Rattle.ring_events.specs.declared.events.Happening.{Happening}
 use Rattle.ring_events.specs.declared.events.Happening.TheVariants.{Put, Try, Tick, Read, ReadAll, Count}
 use Rattle.ring_sizes.specs.EventLists.{events_of}
 use Rattle.ring_sizes.specs.Reads.{read_times}
-use Rattle.ring_sizes.specs.declared.courses.OpenBlock.{OpenBlock}
-use Rattle.ring_sizes.specs.declared.courses.OpenBlock.TheVariants.{Frozen, Empty, Filled}
+use Rattle.ring_sizes.specs.declared.courses.CourseBlock.{CourseBlock}
+use Rattle.ring_sizes.specs.declared.courses.CourseBlock.TheVariants.{Frozen, Empty, Filled}
 use Rattle.ring_sizes.specs.declared.courses.Course.{Course}
 use Rattle.ring_sizes.specs.declared.events.Event.{Event}
 use Rattle.ring_sizes.specs.declared.events.Event.TheVariants as events
@@ -29,12 +29,12 @@ record Bound (blocks : ℕ) (course : Course) : Type 0 where
   most : course.done + opened course.block ≤ course.released + blocks
   behind : course.released ≤ course.done
 
-opened_few : (block : OpenBlock) → opened block ≤ 1
+opened_few : (block : CourseBlock) → opened block ≤ 1
 opened_few Frozen = omega arith
 opened_few Empty = omega arith
 opened_few Filled = omega arith
 
-space_open : (room need used : ℕ) (block : OpenBlock) → has_space room need used block ≡ true → opened block ≡ 1
+space_open : (room need used : ℕ) (block : CourseBlock) → has_space room need used block ≡ true → opened block ≡ 1
 space_open room need used Frozen e = absurd (grind (arith, common_steps, e))
 space_open room need used Empty e = refl
 space_open room need used Filled e = refl
@@ -74,7 +74,8 @@ free_bound : (blocks : ℕ) (course : Course) (free : Bool) → is_free blocks c
 free_bound blocks course true f h = record { most = grind (arith, common_steps); behind = omega (arith, h.behind) }
 free_bound blocks course false f h = record { most = omega (arith, h.most); behind = omega (arith, h.behind) }
 
-due_bound : (blocks : ℕ) (block : OpenBlock) (course : Course) → Bound blocks course → Bound blocks (at_due blocks block course)
+due_bound : (blocks : ℕ) (block : CourseBlock) (course : Course) → Bound blocks course
+    → Bound blocks (at_due blocks block course)
 due_bound blocks Frozen course h = free_bound blocks course (is_free blocks course) refl h
 due_bound blocks Empty course h = h
 due_bound blocks Filled course h = free_bound blocks course (is_free blocks course) refl h

@@ -12,8 +12,8 @@ use Rattle.ring_events.specs.Happenings.{IsPlain, NeverFreezes, all_happened}
 use Rattle.ring_events.specs.declared.events.Happening.{Happening}
 use Rattle.ring_sizes.specs.EventLists.{events_of}
 use Rattle.ring_sizes.specs.Passes.{first_pass, offered, passed, passed_all, with_next}
-use Rattle.ring_sizes.specs.declared.courses.OpenBlock.{OpenBlock}
-use Rattle.ring_sizes.specs.declared.courses.OpenBlock.TheVariants.{Frozen, Empty, Filled}
+use Rattle.ring_sizes.specs.declared.courses.CourseBlock.{CourseBlock}
+use Rattle.ring_sizes.specs.declared.courses.CourseBlock.TheVariants.{Frozen, Empty, Filled}
 use Rattle.ring_sizes.specs.declared.courses.Course.{Course}
 use Rattle.ring_sizes.specs.declared.events.Event.{Event}
 use Rattle.ring_sizes.specs.declared.events.Event.TheVariants.{Packet, Tick, Read, ReadAll}
@@ -199,7 +199,7 @@ module _ (room blocks tov : ℕ) where
   free_more course true = omega arith
   free_more course false = omega arith
 
-  due_more : (block : OpenBlock) (course : Course) → course.freezes ≤ (at_due blocks block course).freezes
+  due_more : (block : CourseBlock) (course : Course) → course.freezes ≤ (at_due blocks block course).freezes
   due_more Frozen course = free_more course (is_free blocks course)
   due_more Empty course = omega arith
   due_more Filled course = free_more course (is_free blocks course)

@@ -36,6 +36,7 @@ module _ (pace : Timing) (since at until : ℕ) (sound : IsPace pace) (later : s
 
   pub stays_quiet : IsQuiet pace at until
   stays_quiet = λ moment few.
-      subst (λ (n : ℕ). (moment < tick_moment pace (n + 1)) × (moment ≤ step_moment pace (steps_before pace at + 1))) (sym ticks)
+      subst (λ (n : ℕ). (moment < tick_moment pace (n + 1)) × (moment ≤ step_moment pace (steps_before pace at + 1)))
+      (sym ticks)
       (subst (λ (n : ℕ). (moment < tick_moment pace (ticks_by pace since + 1)) × (moment ≤ step_moment pace (n + 1)))
       (sym steps) (quiet moment few))

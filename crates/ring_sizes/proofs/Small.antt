@@ -3,8 +3,8 @@ use Rattle.std.proofs.Common.{◌≡◌, ℕ, ◌+◌, ◌<◌, ◌≤◌, ◌^�
 use Rattle.std.specs.Prelude.{nat_lt}
 use Rattle.std.proofs.lemmas.Grind.{common_steps}
 use Rattle.ring_sizes.specs.Courses.{IsSmall, at_due, has_space, is_free, opened, went_on}
-use Rattle.ring_sizes.specs.declared.courses.OpenBlock.{OpenBlock}
-use Rattle.ring_sizes.specs.declared.courses.OpenBlock.TheVariants.{Frozen, Empty, Filled}
+use Rattle.ring_sizes.specs.declared.courses.CourseBlock.{CourseBlock}
+use Rattle.ring_sizes.specs.declared.courses.CourseBlock.TheVariants.{Frozen, Empty, Filled}
 use Rattle.ring_sizes.specs.declared.courses.Course.{Course}
 use Rattle.ring_sizes.specs.declared.events.Event.{Event}
 use Rattle.ring_sizes.specs.declared.events.Event.TheVariants.{Packet, Tick, Read, ReadAll}
@@ -16,7 +16,7 @@ record Few (bound : ℕ) (course : Course) : Type 0 where
   packets : course.kept + course.dropped < bound
   freezes : course.freezes < bound
 
-opened_few : (block : OpenBlock) → opened block ≤ 1
+opened_few : (block : CourseBlock) → opened block ≤ 1
 opened_few Frozen = omega arith
 opened_few Empty = omega arith
 opened_few Filled = omega arith
@@ -92,7 +92,7 @@ free_few bound course false h =
           omega (arith, h.freezes, few);
     }
 
-due_few : (bound blocks : ℕ) (block : OpenBlock) (course : Course) → IsSmall bound course
+due_few : (bound blocks : ℕ) (block : CourseBlock) (course : Course) → IsSmall bound course
     → Few (bound + 1) (at_due blocks block course)
 due_few bound blocks Frozen course h = free_few bound course (is_free blocks course) h
 due_few bound blocks Empty course h =

@@ -5,8 +5,8 @@ use Rattle.std.specs.Prelude.{List, [], ◌∷◌}
 use Rattle.ring_model.specs.declared.notes.Stats.{Stats}
 use Rattle.ring_sizes.specs.declared.events.Event.{Event}
 use Rattle.ring_sizes.specs.declared.events.Event.TheVariants.{Packet, Tick, Read, ReadAll}
-use Rattle.ring_sizes.specs.declared.courses.OpenBlock.{OpenBlock}
-use Rattle.ring_sizes.specs.declared.courses.OpenBlock.TheVariants.{Frozen, Empty, Filled}
+use Rattle.ring_sizes.specs.declared.courses.CourseBlock.{CourseBlock}
+use Rattle.ring_sizes.specs.declared.courses.CourseBlock.TheVariants.{Frozen, Empty, Filled}
 use Rattle.ring_sizes.specs.declared.courses.Course.{Course}
 
 abbrev pub first_course : ℕ → Course
@@ -31,18 +31,18 @@ course_stats course = record {
 }
 
 -- 1 where a block is open, which a next one would close
-abbrev pub opened : OpenBlock → ℕ
+abbrev pub opened : CourseBlock → ℕ
 opened Frozen = 0
 opened Empty = 1
 opened Filled = 1
 
 -- the open block has no packet
-abbrev pub is_empty : OpenBlock → Bool
+abbrev pub is_empty : CourseBlock → Bool
 is_empty Empty = true
 is_empty block = false
 
 -- a packet of this need goes into the open block
-abbrev pub has_space : ℕ → ℕ → ℕ → OpenBlock → Bool
+abbrev pub has_space : ℕ → ℕ → ℕ → CourseBlock → Bool
 has_space room need used Frozen = false
 has_space room need used block = nat_le (used + need) room
 
@@ -72,7 +72,7 @@ fed room blocks tov need course =
     }
 
 -- the time of its block is over
-abbrev pub at_due : ℕ → OpenBlock → Course → Course
+abbrev pub at_due : ℕ → CourseBlock → Course → Course
 at_due blocks Empty course = course
 at_due blocks block course =
     if is_free blocks course

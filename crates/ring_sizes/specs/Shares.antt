@@ -9,7 +9,8 @@ use Rattle.ring_sizes.specs.declared.tries.Reached.{Reached}
 use Rattle.ring_sizes.specs.declared.tries.Tries.{Tries}
 
 -- beginnings to try, with frames that are early enough and few enough
-pub record AreWork (pace : Timing) (tries : Tries) (arrivals : List Arrival) (end : ℕ) : Type 0 where
+pub record AreWork (pace : Timing) (tries : Tries) (arrivals : List Arrival)
+    (end : ℕ) : Type 0 where
   pub tried : AreTried pace tries
   pub early : All (λ arrival. arrival.at < 2 ^ 53) arrivals
   pub soon : end < 2 ^ 53
@@ -18,7 +19,8 @@ pub record AreWork (pace : Timing) (tries : Tries) (arrivals : List Arrival) (en
 -- the least ring that never freezes at any of them, and the first at which it is reached
 abbrev pub IsLeast : ℕ → Timing → List StallTime → List Arrival → ℕ → Tries → Reached → Type 0
 IsLeast room pace stalls arrivals end tries found =
-    IsFirstMost tries (λ phase from. least_of room stalls (begun pace phase from) arrivals end) found
+    IsFirstMost tries (λ phase from. least_of room stalls (begun pace phase from) arrivals end)
+    found
 
 -- the fewest and the most packets that a ring drops at them, and the first at which each is reached
 pub record IsRange (room blocks : ℕ) (pace : Timing) (stalls : List StallTime)

@@ -15,7 +15,7 @@ use ring_model::Stats;
 
 /// The open block of a ring.
 #[derive(Clone, Copy)]
-enum OpenBlock {
+enum CourseBlock {
     /// There is none.
     Frozen,
     /// It has no packet.
@@ -31,7 +31,7 @@ pub struct Course {
     done: u64,
     /// The bytes that the packets of the open block take.
     used: u64,
-    block: OpenBlock,
+    block: CourseBlock,
     /// The moment that the last tick reported, in milliseconds.
     clock: u64,
     /// The moment from which a tick finds the open block's time over.
@@ -67,7 +67,7 @@ impl Course {
         Course {
             done: 0,
             used: 0,
-            block: OpenBlock::Empty,
+            block: CourseBlock::Empty,
             clock: 0,
             deadline: u128::from(tov),
             released: 0,
@@ -129,12 +129,12 @@ impl Course {
         let fits = self.used + need <= u64::from(room);
         if self.opened() == 1 && fits {
             self.used += need;
-            self.block = OpenBlock::Filled;
+            self.block = CourseBlock::Filled;
             self.kept += 1;
         } else if self.is_free(blocks) {
             self.done += self.opened();
             self.used = need;
-            self.block = OpenBlock::Filled;
+            self.block = CourseBlock::Filled;
             self.deadline = u128::from(self.clock) + u128::from(tov);
             self.kept += 1;
         } else {
@@ -161,7 +161,7 @@ impl Course {
     pub fn is_still(&self, ms: u64) -> bool
         ensures { result ≡ is_still ms self.now }
     {
-        matches!(self.block, OpenBlock::Empty) && self.deadline <= u128::from(ms)
+        matches!(self.block, CourseBlock::Empty) && self.deadline <= u128::from(ms)
     }
 
     /// Takes a block's time-out.
@@ -171,12 +171,12 @@ impl Course {
         ensures used { self.new.used < 2 ^ 32 }
     {
         match self.block {
-            OpenBlock::Empty => {}
-            OpenBlock::Frozen | OpenBlock::Filled => {
+            CourseBlock::Empty => {}
+            CourseBlock::Frozen | CourseBlock::Filled => {
                 if self.is_free(blocks) {
                     self.done += self.opened();
                     self.used = 0;
-                    self.block = OpenBlock::Empty;
+                    self.block = CourseBlock::Empty;
                 } else {
                     self.freeze();
                 }
@@ -190,14 +190,14 @@ impl Course {
         ensures { self.new ≡ record self.old {
           done = self.old.done + opened self.old.block;
           used = 0;
-          block = OpenBlock.Frozen;
+          block = CourseBlock.Frozen;
           freezes = self.old.freezes + opened self.old.block;
         } }
     {
         self.done += self.opened();
         self.freezes += self.opened();
         self.used = 0;
-        self.block = OpenBlock::Frozen;
+        self.block = CourseBlock::Frozen;
     }
 
     /// 1 where a block is open, which a next one would close.
@@ -205,8 +205,8 @@ impl Course {
         ensures { result ≡ opened self.now.block }
     {
         match self.block {
-            OpenBlock::Frozen => 0,
-            OpenBlock::Empty | OpenBlock::Filled => 1,
+            CourseBlock::Frozen => 0,
+            CourseBlock::Empty | CourseBlock::Filled => 1,
         }
     }
 
