@@ -34,8 +34,7 @@ pub whole : (rest : List ℕ) → position_or_len (λ b. b == 10) rest ≡ lengt
     → slice_split (λ b. b == 10) rest ≡ rest ∷ []
 whole rest e =
     slice_split_none (λ b. b == 10) rest
-    (All-from_get_or (λ x. (x == 10) ≡ false) rest 0 (λ k lt. fails_before_first (λ b. b == 10) rest k 0
-    (grind (arith, common_steps))))
+    (All-from_get_or (λ x. (x == 10) ≡ false) rest 0 (λ k lt. fails_before_first (λ b. b == 10) rest k 0 (grind (arith, common_steps))))
 
 pub last : (text : List ℕ) (rest : Bor (List ℕ)) (done more : List (Bor (List ℕ)))
     → slice_split (λ b. b == 10) text ≡ map (λ x. x.now) done ++ slice_split (λ b. b == 10) rest.now

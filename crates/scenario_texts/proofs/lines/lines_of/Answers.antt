@@ -5,10 +5,8 @@ use Rattle.scenario_texts.proofs.lines.lines_of.Goals as goal
 
 pub loop-front-preserved : goal.loop-front-preserved
 loop-front-preserved c =
-    let found = split_once_first 10 c.loop-front.rest.now (Some (c.in-Some.front, c.in-Some.behind)) c.in-Some.ensures.cases
-        (omega arith) in
-    (search rules, step c.args.text.now c.loop-front.rest.now _ c.in-Some.front _ _ c.loop-front.invariant.1 found.1 found.2
-    found.0 c.in_ok-push.ensures.items)
+    let found = split_once_first 10 c.loop-front.rest.now (Some (c.in-Some.front, c.in-Some.behind)) c.in-Some.ensures.cases (omega arith) in
+    (search rules, step c.args.text.now c.loop-front.rest.now _ c.in-Some.front _ _ c.loop-front.invariant.1 found.1 found.2 found.0 c.in_ok-push.ensures.items)
 
 pub returns : goal.returns
 returns c =
