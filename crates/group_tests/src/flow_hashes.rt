@@ -93,13 +93,17 @@ fn joined(alloc: Global, first: &[u8], second: &[u8]) -> Result<Vec<u8>, Memory>
     Ok(bytes)
 }
 
-/// Texts that aren't keys: one digit, an even number of digits that aren't 80, a letter that is no
-/// digit, and nothing.
-static REFUSED: [(&[u8], KeyError); 4] = [
+/// Texts that aren't keys: one digit, four digits, a letter that is no digit, nothing, and a key
+/// with two digits more.
+static REFUSED: [(&[u8], KeyError); 5] = [
     (b"6", KeyError::NotHex),
     (b"6d5a", KeyError::WrongLength),
     (b"6g", KeyError::NotHex),
     (b"", KeyError::WrongLength),
+    (
+        b"6d5a56da255b0ec24167253d43a38fb0d0ca2bcbae7b30b477cb2da38030f20c6a42b73bbeac01fa6d",
+        KeyError::WrongLength,
+    ),
 ];
 
 /// Compares why each of these texts isn't a key.

@@ -4,7 +4,7 @@ use crate::forms::{SETUP_WORDS, WORDS, check_value};
 use crate::layers::first_line;
 use crate::mistakes::{Mistake, Slip};
 use crate::words::{count_of, is_among, kept_of, member_of, number, parted};
-use crate::{Document, Line, Scenario};
+use crate::{Document, Scenario, ScenarioLine};
 
 /// Each byte of some words is printable ASCII.
 fn check_bytes(words: &str) -> Result<(), Slip<'_>> {
@@ -17,7 +17,7 @@ fn check_bytes(words: &str) -> Result<(), Slip<'_>> {
 }
 
 /// A line begins with a known word, and what follows has the form of that word.
-fn check_line<'a>(line: &Line<'a>) -> Result<(), Slip<'a>> {
+fn check_line<'a>(line: &ScenarioLine<'a>) -> Result<(), Slip<'a>> {
     check_bytes(line.word)?;
     check_bytes(line.text)?;
     if !is_among(WORDS, line.word) {
@@ -28,7 +28,7 @@ fn check_line<'a>(line: &Line<'a>) -> Result<(), Slip<'a>> {
 
 /// What may stand only once in a scenario: a word of which only the first line counts, or such a
 /// word and a name; `None` for the other words.
-fn key_of<'a>(line: &Line<'a>) -> Option<&'a str> {
+fn key_of<'a>(line: &ScenarioLine<'a>) -> Option<&'a str> {
     match line.word {
         "like" | "run" | "plain" | "status" | "taken" | "report" | "frames" => Some(""),
         "bytes"
@@ -48,7 +48,7 @@ fn key_of<'a>(line: &Line<'a>) -> Option<&'a str> {
 }
 
 /// None of these lines says what another one would say that comes after them.
-fn check_key<'a>(before: &'a [Line<'a>], line: &Line<'a>) -> Result<(), Slip<'a>> {
+fn check_key<'a>(before: &'a [ScenarioLine<'a>], line: &ScenarioLine<'a>) -> Result<(), Slip<'a>> {
     let Some(key) = key_of(line) else {
         return Ok(());
     };
@@ -150,7 +150,7 @@ impl<'a> Scenario<'a> {
     }
 
     /// What a line names of the scenario is there.
-    fn check_names(&self, line: &Line<'a>) -> Result<(), Slip<'a>> {
+    fn check_names(&self, line: &ScenarioLine<'a>) -> Result<(), Slip<'a>> {
         let (_, rest) = parted(line.text);
         match line.word {
             "pcap" => check_fronts(self, rest),
@@ -190,7 +190,7 @@ impl<'a> Scenario<'a> {
 
 impl<'a> Document<'a> {
     /// No scenario has the name of one before, and each name begins its line.
-    fn check_name(&self, name: &Line<'a>) -> Result<(), Mistake<'a>> {
+    fn check_name(&self, name: &ScenarioLine<'a>) -> Result<(), Mistake<'a>> {
         line_begins(name)?;
         match self.named(name.text) {
             Some(first) if first.name.number != name.number => {
@@ -240,7 +240,7 @@ impl<'a> Document<'a> {
 }
 
 /// A name begins its line, and is printable.
-fn line_begins<'a>(name: &Line<'a>) -> Result<(), Mistake<'a>> {
+fn line_begins<'a>(name: &ScenarioLine<'a>) -> Result<(), Mistake<'a>> {
     if name.text.starts_with(' ') {
         return name.mistake(Slip::Name);
     }

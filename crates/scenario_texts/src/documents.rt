@@ -1,6 +1,6 @@
 //! The scenarios of a text.
 use crate::layers::first_line;
-use crate::{Line, Scenario};
+use crate::{Scenario, ScenarioLine};
 use frame_view::Memory;
 use std::alloc::Global;
 
@@ -8,9 +8,9 @@ use std::alloc::Global;
 #[derive(Clone, Copy)]
 pub struct Paragraph<'a> {
     /// Its name.
-    pub name: Line<'a>,
+    pub name: ScenarioLine<'a>,
     /// What its own lines say.
-    pub lines: &'a [Line<'a>],
+    pub lines: &'a [ScenarioLine<'a>],
 }
 
 /// The scenarios of a text.
@@ -21,7 +21,7 @@ pub struct Document<'a> {
 }
 
 /// How many lines come before the first one that is a name.
-fn count_to_name(lines: &[Line<'_>]) -> usize {
+fn count_to_name(lines: &[ScenarioLine<'_>]) -> usize {
     for (count, line) in lines.iter().enumerate() {
         if line.word.is_empty() {
             return count;
@@ -32,7 +32,7 @@ fn count_to_name(lines: &[Line<'_>]) -> usize {
 
 impl<'a> Paragraph<'a> {
     /// The scenario whose name is the line of an index.
-    fn at(lines: &'a [Line<'a>], index: usize, name: Line<'a>) -> Paragraph<'a> {
+    fn at(lines: &'a [ScenarioLine<'a>], index: usize, name: ScenarioLine<'a>) -> Paragraph<'a> {
         let (_, rest) = lines.split_at(index.saturating_add(1).min(lines.len()));
         let (lines, _) = rest.split_at(count_to_name(rest).min(rest.len()));
         Paragraph { name, lines }
@@ -46,7 +46,7 @@ impl<'a> Paragraph<'a> {
 
 impl<'a> Document<'a> {
     /// The scenarios of the lines of a text.
-    pub fn new(alloc: Global, lines: &'a [Line<'a>]) -> Result<Document<'a>, Memory> {
+    pub fn new(alloc: Global, lines: &'a [ScenarioLine<'a>]) -> Result<Document<'a>, Memory> {
         let mut paragraphs = Vec::new(alloc);
         for (index, line) in lines.iter().enumerate() {
             if line.word.is_empty() {

@@ -2,10 +2,10 @@
 
 /// The name of a field, the place of its first byte in its struct, how many bytes it has, and
 /// whether they are in network order.
-type Row = (&'static str, usize, usize, bool);
+type FieldPlace = (&'static str, usize, usize, bool);
 
 /// The header of a block of TPACKET_V3.
-static BLOCK: [Row; 11] = [
+static BLOCK: [FieldPlace; 11] = [
     ("version", 0, 4, false),
     ("offset_to_priv", 4, 4, false),
     ("block_status", 8, 4, false),
@@ -20,7 +20,7 @@ static BLOCK: [Row; 11] = [
 ];
 
 /// The header of a packet of TPACKET_V3.
-static PACKET: [Row; 11] = [
+static PACKET: [FieldPlace; 11] = [
     ("tp_next_offset", 0, 4, false),
     ("tp_sec", 4, 4, false),
     ("tp_nsec", 8, 4, false),
@@ -35,7 +35,7 @@ static PACKET: [Row; 11] = [
 ];
 
 /// The header of a slot of TPACKET_V2.
-static SLOT: [Row; 9] = [
+static SLOT: [FieldPlace; 9] = [
     ("tp_status", 0, 4, false),
     ("tp_len", 4, 4, false),
     ("tp_snaplen", 8, 4, false),
@@ -48,7 +48,7 @@ static SLOT: [Row; 9] = [
 ];
 
 /// The address that follows the header of a packet or a slot.
-static ADDRESS: [Row; 7] = [
+static ADDRESS: [FieldPlace; 7] = [
     ("sll_family", 0, 2, false),
     ("sll_protocol", 2, 2, true),
     ("sll_ifindex", 4, 4, false),
@@ -73,7 +73,7 @@ pub struct Field {
 }
 
 /// The rows of a struct; those of the address that follows it, and its place.
-pub(crate) fn rows_of(layout: &str) -> (&'static [Row], &'static [Row], usize) {
+pub(crate) fn rows_of(layout: &str) -> (&'static [FieldPlace], &'static [FieldPlace], usize) {
     match layout {
         "block" => (BLOCK.as_slice(), &[], 0),
         "packet" => (PACKET.as_slice(), ADDRESS.as_slice(), 48),
@@ -83,7 +83,7 @@ pub(crate) fn rows_of(layout: &str) -> (&'static [Row], &'static [Row], usize) {
 }
 
 /// The field of a name in rows that begin at a place.
-fn found_in(rows: &[Row], name: &str, front: usize) -> Option<Field> {
+fn found_in(rows: &[FieldPlace], name: &str, front: usize) -> Option<Field> {
     for (other, at, size, is_network) in rows {
         if *other == name {
             return Some(Field {

@@ -17,7 +17,7 @@ const LONGEST: usize = 262_144;
 
 /// A kind of words.
 #[derive(Clone, Copy)]
-pub enum Kind {
+pub enum WordForm {
     /// A decimal number.
     Number,
     /// Bytes in hexadecimal digits, which may be repeated.
@@ -127,40 +127,40 @@ fn is_times(word: &str) -> bool {
     }
 }
 
-impl Kind {
+impl WordForm {
     /// Whether a word is of this kind.
     fn is(self, word: &str) -> bool {
         match self {
-            Kind::Number => is_number(word),
-            Kind::Bytes => is_bytes(word),
-            Kind::Frame => is_frame(word),
-            Kind::Kept => is_kept(word),
-            Kind::Block => is_block(word),
-            Kind::Tries => is_of(word, "0123456789krd.@-"),
-            Kind::Notes => is_of(word, "0123456789knrdtTHc.-"),
-            Kind::Point => is_point(word),
-            Kind::Times => is_times(word),
+            WordForm::Number => is_number(word),
+            WordForm::Bytes => is_bytes(word),
+            WordForm::Frame => is_frame(word),
+            WordForm::Kept => is_kept(word),
+            WordForm::Block => is_block(word),
+            WordForm::Tries => is_of(word, "0123456789krd.@-"),
+            WordForm::Notes => is_of(word, "0123456789knrdtTHc.-"),
+            WordForm::Point => is_point(word),
+            WordForm::Times => is_times(word),
         }
     }
 
     /// What a word of this kind is, with its form.
     pub(crate) fn what(self) -> &'static str {
         match self {
-            Kind::Number => "number",
-            Kind::Bytes => "bytes: HEX[xN]",
-            Kind::Frame => "frame: [BYTES:]LENGTH[xN]",
-            Kind::Kept => "frame that is kept: [CAPTURE.]INDEX[-INDEX][/BYTES]",
-            Kind::Block => "block: STATUS:LENGTH[xN]",
-            Kind::Tries => "tries: digits, k, r, d and points, or -",
-            Kind::Notes => "notes: digits, k, n, r, d, t, T, H, c and points, or -",
-            Kind::Point => "point: frame CPU.N, block or decode MEMBER.N, moment MS",
-            Kind::Times => "number of times up to 4096",
+            WordForm::Number => "number",
+            WordForm::Bytes => "bytes: HEX[xN]",
+            WordForm::Frame => "frame: [BYTES:]LENGTH[xN]",
+            WordForm::Kept => "frame that is kept: [CAPTURE.]INDEX[-INDEX][/BYTES]",
+            WordForm::Block => "block: STATUS:LENGTH[xN]",
+            WordForm::Tries => "tries: digits, k, r, d and points, or -",
+            WordForm::Notes => "notes: digits, k, n, r, d, t, T, H, c and points, or -",
+            WordForm::Point => "point: frame CPU.N, block or decode MEMBER.N, moment MS",
+            WordForm::Times => "number of times up to 4096",
         }
     }
 }
 
 /// A word is of a kind.
-fn one<'a>(kind: Kind, word: &'a str) -> Result<(), Slip<'a>> {
+fn one<'a>(kind: WordForm, word: &'a str) -> Result<(), Slip<'a>> {
     if word.is_empty() {
         return Err(Slip::Lacking(kind));
     }
@@ -172,7 +172,7 @@ fn one<'a>(kind: Kind, word: &'a str) -> Result<(), Slip<'a>> {
 }
 
 /// There is one word, and it is of a kind.
-fn only<'a>(kind: Kind, words: &'a str) -> Result<(), Slip<'a>> {
+fn only<'a>(kind: WordForm, words: &'a str) -> Result<(), Slip<'a>> {
     let (first, rest) = parted(words);
     one(kind, first)?;
     none(rest)
@@ -187,7 +187,7 @@ fn none(words: &str) -> Result<(), Slip<'_>> {
 }
 
 /// Each word is of a kind.
-fn each<'a>(kind: Kind, words: &'a str) -> Result<(), Slip<'a>> {
+fn each<'a>(kind: WordForm, words: &'a str) -> Result<(), Slip<'a>> {
     for word in words.split_whitespace() {
         one(kind, word)?;
     }
@@ -195,7 +195,7 @@ fn each<'a>(kind: Kind, words: &'a str) -> Result<(), Slip<'a>> {
 }
 
 /// There are words, and each is of a kind.
-fn some<'a>(kind: Kind, words: &'a str) -> Result<(), Slip<'a>> {
+fn some<'a>(kind: WordForm, words: &'a str) -> Result<(), Slip<'a>> {
     if words.is_empty() {
         return Err(Slip::Lacking(kind));
     }
@@ -215,40 +215,40 @@ fn among<'a>(words: &'static str, word: &'a str) -> Result<(), Slip<'a>> {
 fn check_cpu(value: &str) -> Result<(), Slip<'_>> {
     match value.split_once(" given ") {
         Some((tries, given)) => {
-            some(Kind::Tries, tries)?;
-            only(Kind::Number, given)
+            some(WordForm::Tries, tries)?;
+            only(WordForm::Number, given)
         }
-        None => some(Kind::Tries, value),
+        None => some(WordForm::Tries, value),
     }
 }
 
 /// The parts of a member after its number: notes, frames that are kept, and blocks.
 fn check_member(value: &str) -> Result<(), Slip<'_>> {
     let (notes, kept, blocks) = member_of(value);
-    only(Kind::Notes, notes)?;
-    each(Kind::Kept, kept)?;
-    each(Kind::Block, blocks)
+    only(WordForm::Notes, notes)?;
+    each(WordForm::Kept, kept)?;
+    each(WordForm::Block, blocks)
 }
 
 /// A thread waits at a point until another one.
 fn check_hold(value: &str) -> Result<(), Slip<'_>> {
     let (held, until) = value.split_once(" until ").unwrap_or((value, ""));
-    one(Kind::Point, held.trim())?;
-    one(Kind::Point, until.trim())
+    one(WordForm::Point, held.trim())?;
+    one(WordForm::Point, until.trim())
 }
 
 /// The number of a call, and how many bytes it leaves.
 fn check_half(value: &str) -> Result<(), Slip<'_>> {
     let (call, left) = parted(value);
-    one(Kind::Number, call)?;
-    only(Kind::Number, left)
+    one(WordForm::Number, call)?;
+    only(WordForm::Number, left)
 }
 
 /// Bytes at a place.
 fn check_place(value: &str) -> Result<(), Slip<'_>> {
     let (at, bytes) = parted(value);
-    one(Kind::Number, at)?;
-    some(Kind::Bytes, bytes)
+    one(WordForm::Number, at)?;
+    some(WordForm::Bytes, bytes)
 }
 
 /// A field of a struct and its number.
@@ -259,7 +259,7 @@ fn check_field<'a>(layout: &'a str, name: &'a str, value: &'a str) -> Result<(),
     if value.is_empty() {
         return Err(Slip::Valueless(name));
     }
-    one(Kind::Number, value)?;
+    one(WordForm::Number, value)?;
     if number(value) as u64 > field.greatest() {
         return Err(Slip::TooGreat(name, field.size, value));
     }
@@ -269,7 +269,7 @@ fn check_field<'a>(layout: &'a str, name: &'a str, value: &'a str) -> Result<(),
 /// Fields of a struct at a place.
 fn check_fields(value: &str) -> Result<(), Slip<'_>> {
     let (at, rest) = parted(value);
-    one(Kind::Number, at)?;
+    one(WordForm::Number, at)?;
     let (layout, pairs) = parted(rest);
     if !is_among(STRUCTS, layout) {
         return Err(Slip::Struct(layout));
@@ -284,17 +284,17 @@ fn check_fields(value: &str) -> Result<(), Slip<'_>> {
 /// A line that may be repeated.
 fn check_times(value: &str) -> Result<(), Slip<'_>> {
     let (_, last) = value.rsplit_once(' ').unwrap_or(("", value));
-    one(Kind::Times, last)
+    one(WordForm::Times, last)
 }
 
 /// What follows a word and a name.
 fn check_named<'a>(word: &str, name: &'a str, rest: &'a str) -> Result<(), Slip<'a>> {
     match word {
-        "cut" | "endless" | "pieces" | "part" => only(Kind::Number, rest),
-        "pcap" => each(Kind::Frame, rest),
-        "bytes" | "tail" | "raw" => each(Kind::Bytes, rest),
-        "fail" => some(Kind::Number, rest),
-        "sent" => each(Kind::Kept, rest),
+        "cut" | "endless" | "pieces" | "part" => only(WordForm::Number, rest),
+        "pcap" => each(WordForm::Frame, rest),
+        "bytes" | "tail" | "raw" => each(WordForm::Bytes, rest),
+        "fail" => some(WordForm::Number, rest),
+        "sent" => each(WordForm::Kept, rest),
         "file" => check_place(rest),
         "fields" => check_fields(rest),
         _ => check_counted(word, name, rest),
@@ -306,25 +306,25 @@ fn check_counted<'a>(word: &str, first: &'a str, rest: &'a str) -> Result<(), Sl
     match word {
         "faults" => {
             among("save", first)?;
-            only(Kind::Number, rest)
+            only(WordForm::Number, rest)
         }
         "poor" => {
             among("call write", first)?;
-            some(Kind::Number, rest)
+            some(WordForm::Number, rest)
         }
         "half" => {
             among("save", first)?;
             check_half(rest)
         }
         "cpu" => {
-            one(Kind::Number, first)?;
+            one(WordForm::Number, first)?;
             check_cpu(rest)
         }
         "member" => {
-            one(Kind::Number, first)?;
+            one(WordForm::Number, first)?;
             check_member(rest)
         }
-        _ => one(Kind::Number, first),
+        _ => one(WordForm::Number, first),
     }
 }
 
@@ -338,8 +338,8 @@ pub(crate) fn check_value<'a>(word: &str, value: &'a str) -> Result<(), Slip<'a>
         "base" => none(value),
         "plain" => among("yes", value),
         "report" => among("any", value),
-        "taken" => only(Kind::Number, value),
-        "frames" => each(Kind::Frame, value),
+        "taken" => only(WordForm::Number, value),
+        "frames" => each(WordForm::Frame, value),
         "hold" => check_hold(value),
         _ => check_named(word, first, rest),
     }

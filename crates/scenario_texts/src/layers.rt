@@ -1,5 +1,5 @@
 //! A scenario: its own lines, and those of the ones that it is like.
-use crate::Line;
+use crate::ScenarioLine;
 use crate::words::{is_among, number, parted};
 use frame_view::Memory;
 use std::alloc::Global;
@@ -8,17 +8,20 @@ use std::alloc::Global;
 #[derive(Clone, Copy)]
 pub struct Scenario<'a> {
     /// Its name.
-    pub name: Line<'a>,
+    pub name: ScenarioLine<'a>,
     /// Its own lines.
-    pub(crate) own: &'a [Line<'a>],
+    pub(crate) own: &'a [ScenarioLine<'a>],
     /// Those of the scenario that it is like, if it is like one.
-    pub(crate) base: &'a [Line<'a>],
+    pub(crate) base: &'a [ScenarioLine<'a>],
     /// Those of the scenario that this one is like, if it is like one.
-    pub(crate) last: &'a [Line<'a>],
+    pub(crate) last: &'a [ScenarioLine<'a>],
 }
 
 /// The first of some lines that has a word.
-pub(crate) fn first_line<'a>(lines: &'a [Line<'a>], word: &str) -> Option<Line<'a>> {
+pub(crate) fn first_line<'a>(
+    lines: &'a [ScenarioLine<'a>],
+    word: &str,
+) -> Option<ScenarioLine<'a>> {
     for line in lines {
         if line.word == word {
             return Some(*line);
@@ -30,7 +33,7 @@ pub(crate) fn first_line<'a>(lines: &'a [Line<'a>], word: &str) -> Option<Line<'
 impl<'a> Scenario<'a> {
     /// The lines among which those of a word stand: its own, if one of them has the word, otherwise
     /// those of the scenario that it is like.
-    pub(crate) fn lines(&self, word: &str) -> &'a [Line<'a>] {
+    pub(crate) fn lines(&self, word: &str) -> &'a [ScenarioLine<'a>] {
         if first_line(self.own, word).is_some() {
             self.own
         } else if first_line(self.base, word).is_some() {
@@ -60,7 +63,7 @@ impl<'a> Scenario<'a> {
     }
 
     /// The lines with a word that say something.
-    pub fn values(&self, alloc: Global, word: &str) -> Result<Vec<Line<'a>>, Memory> {
+    pub fn values(&self, alloc: Global, word: &str) -> Result<Vec<ScenarioLine<'a>>, Memory> {
         let mut values = Vec::new(alloc);
         for line in self.lines(word) {
             if line.word == word && !line.text.is_empty() {

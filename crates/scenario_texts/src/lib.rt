@@ -16,7 +16,7 @@ pub use diffs::push_diff;
 pub use documents::{Document, Paragraph};
 pub use fields::{Field, field_of, number_at};
 pub use layers::Scenario;
-pub use lines::{Line, numbered_lines};
+pub use lines::{ScenarioLine, numbered_lines};
 pub use mistakes::{Mistake, Slip};
 pub use spelling::is_near;
 pub use words::{

@@ -8,7 +8,7 @@ use std::alloc::Global;
 
 /// What a line of a text says, or a part of it between bars.
 #[derive(Clone, Copy)]
-pub struct Line<'a> {
+pub struct ScenarioLine<'a> {
     /// The number of the line in the text, from 1.
     pub number: usize,
     /// The word with which the line begins; empty for the name of a scenario.
@@ -20,7 +20,7 @@ pub struct Line<'a> {
 /// What the lines of a text say that are neither blank nor comments. The first line and each line
 /// after a blank one is the name of a scenario; a comment is a line whose first word begins with
 /// `#`. A line feed ends a line.
-pub fn numbered_lines<'a>(alloc: Global, text: &'a str) -> Result<Vec<Line<'a>>, Memory> {
+pub fn numbered_lines<'a>(alloc: Global, text: &'a str) -> Result<Vec<ScenarioLine<'a>>, Memory> {
     let mut lines = Vec::new(alloc);
     let mut is_name = true;
     for (index, line) in lines_of(alloc, text)?.as_slice().iter().enumerate() {
@@ -46,7 +46,7 @@ fn lines_of<'a>(alloc: Global, text: &'a str) -> Result<Vec<&'a str>, Memory>
 
 /// Appends what a line says; gives whether the next line is a name.
 fn push_line<'a>(
-    lines: &mut Vec<Line<'a>>,
+    lines: &mut Vec<ScenarioLine<'a>>,
     number: usize,
     line: &'a str,
     is_name: bool,
@@ -60,7 +60,7 @@ fn push_line<'a>(
     }
     if is_name {
         let (word, text) = ("", line.trim_end());
-        lines.push(Line { number, word, text })?;
+        lines.push(ScenarioLine { number, word, text })?;
     } else {
         push_parts(lines, number, text)?;
     }
@@ -69,12 +69,16 @@ fn push_line<'a>(
 
 /// Appends the parts of a line between bars, each after the word of the line. A part in which
 /// nothing stands is left out, if it isn't the whole line.
-fn push_parts<'a>(lines: &mut Vec<Line<'a>>, number: usize, line: &'a str) -> Result<(), Memory> {
+fn push_parts<'a>(
+    lines: &mut Vec<ScenarioLine<'a>>,
+    number: usize,
+    line: &'a str,
+) -> Result<(), Memory> {
     let (word, values) = parted(line);
     for part in values.split(" | ") {
         let text = part.trim();
         if !text.is_empty() || values.is_empty() {
-            lines.push(Line { number, word, text })?;
+            lines.push(ScenarioLine { number, word, text })?;
         }
     }
     Ok(())

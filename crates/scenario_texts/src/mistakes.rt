@@ -2,10 +2,10 @@
 ghost use Rattle.std.specs.Prelude.{◌≡◌, false, is_ok, IfErr};
 
 use crate::fields::{STRUCTS, rows_of};
-use crate::forms::{Kind, SETUP_WORDS, WORDS};
+use crate::forms::{SETUP_WORDS, WORDS, WordForm};
 use crate::spelling::{push_meant, push_near};
 use crate::words::parted;
-use crate::{Document, Line, Scenario};
+use crate::{Document, Scenario, ScenarioLine};
 use frame_view::Memory;
 use std::alloc::Global;
 
@@ -23,9 +23,9 @@ pub enum Slip<'a> {
     /// A line of a word, or of a word and a name, stands in this line already.
     Again(&'a str, &'a str, usize),
     /// A word that isn't of the kind that is due.
-    Value(&'a str, Kind),
+    Value(&'a str, WordForm),
     /// A word is missing that is of this kind.
-    Lacking(Kind),
+    Lacking(WordForm),
     /// A word that is one too many.
     Further(&'a str),
     /// A word that isn't one of these.
@@ -63,7 +63,7 @@ pub struct Mistake<'a> {
     pub slip: Slip<'a>,
 }
 
-impl<'a> Line<'a> {
+impl<'a> ScenarioLine<'a> {
     /// A mistake in this line.
     pub(crate) fn mistake(&self, slip: Slip<'a>) -> Result<(), Mistake<'a>>
         ensures line { IfErr result (λ mistake. mistake.line ≡ self.now.number) }
@@ -164,7 +164,7 @@ fn push_near_field(
 fn push_near_name(
     alloc: Global,
     text: &mut String,
-    lines: &[Line<'_>],
+    lines: &[ScenarioLine<'_>],
     (word, name): (&str, &str),
 ) -> Result<bool, Memory> {
     for line in lines {

@@ -1,10 +1,10 @@
 //! How a scenario's run differs from what the scenario says.
 use crate::cases::{Case, is_dumped_too};
 use crate::gates::ScriptGate;
-use crate::runs::{Answer, Ran, is_on_threads};
+use crate::runs::{Answer, ScenarioRan, is_on_threads};
 use crate::saved::After;
 use frame_view::Memory;
-use scenario_texts::{Line, number, push_diff, repeated_line};
+use scenario_texts::{ScenarioLine, number, push_diff, repeated_line};
 use std::sync::Wait;
 use std::thread::Threads;
 
@@ -47,7 +47,7 @@ impl<'a> Wanted<'a> {
 }
 
 /// How often a line of a report or a printed one stands there.
-fn times_of(line: &Line<'_>) -> usize {
+fn times_of(line: &ScenarioLine<'_>) -> usize {
     match line.word {
         ">" => repeated_line(line.text).1,
         _ => 1,
@@ -208,7 +208,7 @@ impl<'a> Case<'a> {
         &self,
         text: &mut String,
         wanted: &Wanted<'_>,
-        ran: &Ran,
+        ran: &ScenarioRan,
     ) -> Result<(), Memory> {
         self.push_wrong_answer(text, wanted, (&ran.answer, ran.printed.as_str()))?;
         if wanted.is_cut {

@@ -81,7 +81,7 @@ pub fn outcome_on_threads<S: Store, O: Sink, G: Gate + Sync, R: Threads + Wait +
 /// What a command answers and prints, the files after it, and the calls of a store that records
 /// them.
 #[derive(Drop)]
-pub(crate) struct Ran {
+pub(crate) struct ScenarioRan {
     /// The status and the report.
     pub(crate) answer: Answer,
     /// What was printed.
@@ -139,10 +139,10 @@ impl<'a> Case<'a> {
         &self,
         rt: &R,
         gate: &ScriptGate,
-    ) -> Result<Ran, Memory> {
+    ) -> Result<ScenarioRan, Memory> {
         let mut store = ScriptStore::new(*self, self.memory_store()?);
         let mut out = ScriptSink::new(*self);
-        Ok(Ran {
+        Ok(ScenarioRan {
             answer: self.carry_out(rt, &mut store, &mut out, gate)?,
             printed: text_of(self.alloc, out.bytes.as_slice())?,
             files: store.files,

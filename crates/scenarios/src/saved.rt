@@ -3,8 +3,8 @@ use crate::cases::Case;
 use crate::comparison::Wanted;
 use frame_view::Memory;
 use scenario_texts::{
-    Line, bytes_of, call_number, count_of, field_of, is_among, member_of, number, number_at,
-    parted, word_at,
+    ScenarioLine, bytes_of, call_number, count_of, field_of, is_among, member_of, number,
+    number_at, parted, word_at,
 };
 use tap_outside::MemStore;
 
@@ -180,7 +180,7 @@ impl<'a> After<'a> {
 
     /// Appends the fields of a line that have other numbers in the bytes of its file, or aren't
     /// there.
-    fn push_wrong_fields(&self, text: &mut String, line: &Line<'a>) -> Result<(), Memory> {
+    fn push_wrong_fields(&self, text: &mut String, line: &ScenarioLine<'a>) -> Result<(), Memory> {
         let (name, rest) = parted(line.text);
         let (at, rest) = parted(rest);
         let (layout, pairs) = parted(rest);
