@@ -25,7 +25,7 @@ pub record ReadsAre (stalls : List text_stalls.Stall) (pace : Timing) (blocks me
   pub same : (step : ℕ) → moment_of step ≡ step_moment pace (step + 1)
   pub counted : (step : ℕ) → (moment_of step ≤ end) ↔ (step < steps)
 
-pub text_reads : (of : texts.Pace) (stalls : List text_stalls.Stall) (tov blocks members phase from end : ℕ) (pace : Pace)
+pub text_reads : (of : texts.Pace) (stalls : List text_stalls.Stall) (tov blocks members phase from end : ℕ) (pace : Timing)
     (reads : List Timed)
     → pace_of tov of ≡ Some pace → IsPace (begun pace phase from) → reads_of of stalls blocks members from end ≡ Some reads
     → ReadsAre stalls (begun pace phase from) blocks members end tov phase reads
