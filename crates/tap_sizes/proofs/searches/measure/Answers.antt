@@ -5,20 +5,20 @@ use Rattle.tap_sizes.proofs.ReadFrames.{deal_early, end_is}
 use Rattle.tap_sizes.proofs.searches.measure.Goals as goal
 
 pub answers_of-requires-clause-answered : goal.answers_of-requires-clause-answered
-answers_of-requires-clause-answered g c = (answerable c.args.reader.now c.requires.answered).pace
+answers_of-requires-clause-answered g c κs within = (answerable c.args.reader.now c.requires.answered).pace
 
 pub answers_of-requires-clause-blocks : goal.answers_of-requires-clause-blocks
-answers_of-requires-clause-blocks g c = (answerable c.args.reader.now c.requires.answered).blocks
+answers_of-requires-clause-blocks g c κs within = (answerable c.args.reader.now c.requires.answered).blocks
 
 pub answers_of-requires-clause-some : goal.answers_of-requires-clause-some
-answers_of-requires-clause-some g c =
+answers_of-requires-clause-some g c κs within =
     let count = c.in_ok-dealt.ensures.count in
     let some = c.members-members.ensures.some in
     let value = c.members-members.ensures.value in
     omega (arith, count, some, value)
 
 pub answers_of-requires-clause-early : goal.answers_of-requires-clause-early
-answers_of-requires-clause-early g c =
+answers_of-requires-clause-early g c κs within =
     let read = c.requires.read in
     let soon : c.in_ok-dealt.dealt.end < 2 ^ 53 = search rules in
     deal_early c.args.job.now c.args.reader.now read.bytes c.args.reads.deals.items
