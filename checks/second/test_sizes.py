@@ -70,7 +70,7 @@ def expected_of(case: SizeCase) -> tuple[str, int]:
     """The lines of the second program, and the status."""
     lines = case.sizing().lines()
     ends = set(re.findall(r"^cpu .* end (\w+)", lines, re.M))
-    return lines, 3 if lines.endswith(" ms\n") else 0 if ends == {"ok"} else 4
+    return lines, 4 if ends != {"ok"} else 3 if lines.endswith(" ms\n") else 0
 
 
 def agree(sizer: Path, room: Path, case: SizeCase) -> None:

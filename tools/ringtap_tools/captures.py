@@ -282,7 +282,9 @@ def pcap_frames(stream: CaptureStream) -> Iterator[Frame]:
     """The frames of a pcap file of version 2.4."""
     number = count()
     for run in pcap_runs(stream, PIECE):
-        yield from map(Frame, number, *run)
+        # the number last: `zip` takes none where a run has ended
+        for columns, index in zip(zip(*run), number):
+            yield Frame(index, *columns)
 
 
 def pcap_runs(stream: CaptureStream, most: int) -> Iterator[Run]:
