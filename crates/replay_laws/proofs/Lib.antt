@@ -7,6 +7,7 @@ pub mod LargerReports
 pub mod PrintedFreezes
 pub mod Alone
 pub mod AlikeSlots
+pub mod AlikeSlotStats
 pub mod Courses
 pub mod SlotDrops
 pub mod HomeTries

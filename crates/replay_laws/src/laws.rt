@@ -14,10 +14,12 @@ ghost use Rattle.replay_laws.specs.LargerJobs.{HasMoreBlocks, HasMoreSlots, Show
 ghost use Rattle.replay_laws.specs.LargerJobs.{block_report, slot_report};
 ghost use Rattle.ring_events.specs.Happenings.{IsNeverHeld, all_happened};
 ghost use Rattle.ring_events.specs.declared.events.Happening.{Happening};
-ghost use Rattle.ring_laws.specs.Alike.{AreLikeHappenings, Gap, KeepsSnaps};
+ghost use Rattle.ring_laws.specs.Alike.{AreLikeHappenings, AreLikeNotes, AreLikeStats, Gap};
+ghost use Rattle.ring_laws.specs.Alike.{KeepsSnaps};
 ghost use Rattle.ring_laws.specs.Runs.{IsCourse};
 ghost use Rattle.ring_model.specs.Ring.{Size};
 ghost use Rattle.ring_model.specs.Rings.{Ring, fresh};
+ghost use Rattle.ring_model.specs.declared.notes.Note.{Note};
 ghost use Rattle.run_reports.specs.Jobs.{rules_of};
 ghost use Rattle.run_reports.specs.Reports.{IsRunReport};
 ghost use Rattle.run_reports.specs.RingRules.{block_rules, slot_rules};
@@ -25,7 +27,8 @@ ghost use Rattle.run_reports.specs.declared.reports.RunReport.{RunReport};
 ghost use Rattle.setup_text.specs.TickOrder.{IsSchedule};
 ghost use Rattle.setup_text.specs.declared.jobs.Job.{Job};
 ghost use Rattle.setup_text.specs.declared.lines.Line.{Line};
-ghost use Rattle.slot_layout.specs.SlotFates.{slot_totals_of};
+ghost use Rattle.slot_layout.specs.SlotFates.{slot_stats_of, slot_stretches_from, slot_totals_of};
+ghost use Rattle.slot_layout.specs.SlotSteps.{SlotState};
 
 use ring_laws::a_ring_that_counted_no_freeze_found_none_held;
 use ring_model::statistics_count_each_packet;
@@ -154,11 +157,17 @@ pub fn a_replay_without_a_freeze_reports_as_with_more_blocks()
 /// Two rings of as many slots go on alike, whatever happens to them, if equally many filled slots
 /// are with the reader and packets were lost in both or in neither: they keep and drop the same
 /// packets and fill the same slots, but for the numbers of slots. There is no open block and no
-/// deadline, so a run may be cut wherever all slots are given back.
+/// deadline, so a run may be cut wherever all slots are given back. Of the statistics taken since,
+/// the first ones differ by what either ring had counted before, and all later ones are the same.
 pub fn rings_of_slots_alike_go_on_alike()
-    ensures { (gap : Gap) (size : Size) (happenings others : List Happening) (one other : Ring)
+    ensures rings { (gap : Gap) (size : Size) (happenings others : List Happening)
+        (one other : Ring)
         → KeepsSnaps gap → KeepsTags gap → IsLikeSlotRing gap one other
         → AreLikeHappenings gap happenings others
         → SlotsWentOnAlike gap one other (all_happened_by (slot_steps size) happenings one)
         (all_happened_by (slot_steps size) others other) }
+    ensures stats { (gap : Gap) (notes other_notes : List Note) (one other : SlotState)
+        → AreLikeNotes gap notes other_notes
+        → AreLikeStats (slot_stats_of one) (slot_stats_of other)
+        (slot_stretches_from one notes) (slot_stretches_from other other_notes) }
 {}
