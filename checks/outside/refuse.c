@@ -1,6 +1,7 @@
-/* Loaded before a program, refuses one of its requests: that for memory of the number in REFUSED, or that for a thread of the number
-   in NO_THREAD, each counted from 1 over all threads. It tells in the file named by TOLD when it did, and in the file named by LEFT
-   where the program ends while a thread that it started goes on, or wasn't joined. */
+/* Loaded before a program, refuses one of its requests: that for memory of the number in REFUSED, that for a thread of the number in
+   NO_THREAD, the read of the number in FAILED_READ or the write of the number in FAILED_WRITE, each counted from 1 over all threads.
+   It tells in the file named by TOLD when it did, and in the file named by LEFT where the program ends while a thread that it started
+   goes on, or wasn't joined. */
 #define _GNU_SOURCE
 #include <dlfcn.h>
 #include <errno.h>
@@ -10,7 +11,7 @@
 #include <stdlib.h>
 #include <unistd.h>
 
-static atomic_long requests, threads, started, joined;
+static atomic_long requests, threads, reads, writes, started, joined;
 
 static void tell(const char *variable)
 {
@@ -84,6 +85,29 @@ int pthread_join(pthread_t thread, void **result)
     if (!failed)
         atomic_fetch_add(&joined, 1);
     return failed;
+}
+
+/* Fails as a broken disk does. */
+static ssize_t failed(void)
+{
+    errno = EIO;
+    return -1;
+}
+
+ssize_t read(int file, void *into, size_t size)
+{
+    static ssize_t (*next)(int, void *, size_t);
+    if (next == NULL)
+        next = (ssize_t (*)(int, void *, size_t))dlsym(RTLD_NEXT, "read");
+    return is_refused("FAILED_READ", &reads) ? failed() : next(file, into, size);
+}
+
+ssize_t write(int file, const void *from, size_t size)
+{
+    static ssize_t (*next)(int, const void *, size_t);
+    if (next == NULL)
+        next = (ssize_t (*)(int, const void *, size_t))dlsym(RTLD_NEXT, "write");
+    return is_refused("FAILED_WRITE", &writes) ? failed() : next(file, from, size);
 }
 
 __attribute__((destructor)) static void end(void)

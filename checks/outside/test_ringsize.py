@@ -3,6 +3,7 @@ line, each text that is refused its line, and no run saves anything."""
 from __future__ import annotations
 
 import os
+import re
 import shutil
 import subprocess
 import threading
@@ -192,3 +193,29 @@ def test_refused_memory(here: Here) -> None:
         else:
             assert ended == ample, f"request {number}"
     assert number >= 20
+
+
+@pytest.mark.needs("cc")
+def test_each_read_that_fails(here: Here) -> None:
+    """A text's: nothing but that. A capture's: its line says so, every file has one, and the rings
+    are those of what was read."""
+    here.write("reader.txt", SHORT + "more 0 burst.pcap\n")
+    refusing, number = Refusing(here.path, here.sizer), 0
+    ample, faults = refusing.run("setup.txt reader.txt"), []
+    for number, ended in refusing.each("setup.txt reader.txt", "FAILED_READ", []):
+        assert ended.status == 5, f"read {number}"
+        if ended.lines != "read fault\n":
+            ends = re.findall(r"^cpu 0 .* end (.*)$", ended.lines, re.M)
+            faults.append(ends)
+            assert len(ended.lines.splitlines()) == len(ample.lines.splitlines()), f"read {number}"
+    assert number >= 6
+    # each file has a read of bytes and one that finds its end
+    assert faults == [["fault", "ok"]] * 2 + [["ok", "fault"]] * 2
+
+
+@pytest.mark.needs("cc")
+def test_each_write_that_fails(here: Here) -> None:
+    here.write("reader.txt", SHORT)
+    refusing = Refusing(here.path, here.sizer)
+    runs = list(refusing.each("setup.txt reader.txt", "FAILED_WRITE", []))
+    assert [(ended.status, ended.lines) for _, ended in runs] == [(6, "")]
