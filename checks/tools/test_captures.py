@@ -108,6 +108,19 @@ def test_pcapng(here: Here) -> None:
     ) == (wanted, "ok")
 
 
+def test_numbers(here: Here) -> None:
+    """10,000 records of 76 bytes are read in three pieces, and no number is left out or stands
+    twice where one piece ends; of pcapng and of gzip the same."""
+    frames = [frame(number) for number in range(10_000)]
+    plain = header() + b"".join(record(data, fraction=0) for data in frames)
+    next_ = section("<") + interface("<", 9)
+    next_ += b"".join(enhanced("<", 0, 0, data, 60) for data in frames)
+    for data in (plain, next_, gzip.compress(plain, 1)):
+        stream = CaptureStream(here.path / here.saved("numbers", data))
+        read_ones = [(one.index, one.data) for one in stream]
+        assert read_ones == list(enumerate(frames))
+
+
 def test_damage(here: Here) -> None:
     """How captures end that are damaged or cut, and the frames before that, are what the program
     says: eight captures a run."""

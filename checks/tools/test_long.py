@@ -1,7 +1,11 @@
-"""Compares what tools/long.py adds up from pieces with a whole run of the program."""
+"""Compares what tools/long.py adds up from pieces with a whole run of the program.
+
+`LONG_SETUPS` in the environment is how many random setups are run in pieces (16).
+"""
 from __future__ import annotations
 
 import json
+import os
 import random
 from dataclasses import dataclass, field
 
@@ -19,6 +23,8 @@ from second.capture_bytes import header
 from second.hash_values import KEY
 from tools.here import BLOCK, Here, frame, record_at
 
+SETUPS = int(os.environ.get("LONG_SETUPS", "16"))
+LONG_TEXTS = 6  # further ones, whose pieces end where their schedules are long
 ALL, SHORT = "1\n6 0 0 262144\n", "1\n6 0 0 60\n"
 LONG = "4\n128 0 0 0\n37 0 1 200\n6 0 0 0\n6 0 0 90\n"  # of more than 200 bytes the first 90
 READERS = (
@@ -117,13 +123,13 @@ def compared(here: Here, case: Case, piece: int) -> LongRun:
     return run
 
 
-@pytest.mark.parametrize("seed", range(16))
+@pytest.mark.parametrize("seed", range(SETUPS))
 def test_pieces_add_up(here: Here, seed: int, monkeypatch: pytest.MonkeyPatch) -> None:
     monkeypatch.chdir(here.path)
     compared(here, random_case(seed), 1024 + seed % 3 * 3000)
 
 
-@pytest.mark.parametrize("seed", range(16, 22))
+@pytest.mark.parametrize("seed", range(SETUPS, SETUPS + LONG_TEXTS))
 def test_long_texts_are_cut(here: Here, seed: int, monkeypatch: pytest.MonkeyPatch) -> None:
     """A piece ends where its schedule is long, between two frames too."""
     monkeypatch.chdir(here.path)

@@ -13,12 +13,14 @@ from __future__ import annotations
 from collections import deque
 from dataclasses import dataclass
 from fractions import Fraction
-from typing import Iterator
+from typing import Iterator, Sequence
 
 from .files import LARGEST_NUMBER, NANOSECONDS
 
 MILLISECOND = 1_000_000  # nanoseconds
 NEVER = 1 << 100
+
+Stalls = Sequence[tuple[int, int]]  # from when to when no reader reads, nanoseconds, rising
 
 
 @dataclass(frozen=True)
@@ -46,6 +48,12 @@ class Pace:
     @property
     def has_reader(self) -> bool:
         return bool(self.blocks or self.bytes or self.pause) or self.poll is not None
+
+    def stall_times(self) -> Stalls:
+        return sorted(
+            (int(start * MILLISECOND), int((start + length) * MILLISECOND))
+            for start, length in self.stalls
+        )
 
 
 @dataclass(frozen=True)
@@ -78,6 +86,15 @@ class Beat:
     def last_by(self, time: int) -> int:
         """The number of the last moment at or before a time."""
         return self.first_from(time + 1) - 1
+
+    def awake_from(self, number: int, stalls: Stalls) -> tuple[int, int]:
+        """The first moment from a number on that isn't in a stall: its number, and when it is."""
+        time = self.moment(number)
+        for start, stop in stalls:
+            if start <= time < stop:
+                number = self.first_from(stop)
+                time = self.moment(number)
+        return number, time
 
 
 def steps_of(pace: Pace, block_size: int) -> Beat | None:
@@ -171,10 +188,7 @@ class Readers:
     def __init__(self, pace: Pace, shape: Shape) -> None:
         self.steps = 1 if pace.blocks or pace.bytes else shape.block_nr
         self.beat = steps_of(pace, shape.block_size) or Beat(Fraction(MILLISECOND))
-        self.stalls = sorted(
-            (int(start * MILLISECOND), int((start + length) * MILLISECOND))
-            for start, length in pace.stalls
-        )
+        self.stalls = pace.stall_times()
         self.waiting, self.most = [0] * shape.members, shape.block_nr
         self.number = self.beat.first  # of the next step
         self.time = NEVER if pace.has_reader else None  # of the next one that can find something
@@ -185,17 +199,8 @@ class Readers:
             return
         self.waiting = [min(count + 1, self.most) for count in self.waiting]
         if self.time == NEVER:
-            self.number = max(self.number, self.beat.first_from(now))
-            self.time = self.awake()
-
-    def awake(self) -> int:
-        """The time of the next step that isn't in a stall."""
-        time = self.beat.moment(self.number)
-        for start, stop in self.stalls:
-            if start <= time < stop:
-                self.number = self.beat.first_from(stop)
-                time = self.beat.moment(self.number)
-        return time
+            number = max(self.number, self.beat.first_from(now))
+            self.number, self.time = self.beat.awake_from(number, self.stalls)
 
     def take(self) -> str:
         """The lines of the next step."""
@@ -204,8 +209,9 @@ class Readers:
             taken = min(count, self.steps)
             self.waiting[member] -= taken
             lines.append(taken * f"read {member}\n")
-        self.number += 1
-        self.time = self.awake() if any(self.waiting) else NEVER
+        self.number, self.time = self.number + 1, NEVER
+        if any(self.waiting):
+            self.number, self.time = self.beat.awake_from(self.number, self.stalls)
         return "".join(lines)
 
 

@@ -64,10 +64,7 @@ class Steps:
     def __init__(self, pace: Pace, shape: Shape) -> None:
         self.takes_all = not (pace.blocks or pace.bytes)
         self.beat = steps_of(pace, shape.block_size)
-        self.stalls = [
-            (int(start * MILLISECOND), int((start + length) * MILLISECOND))
-            for start, length in pace.stalls
-        ]
+        self.stalls = pace.stall_times()
 
     def last(self, after: int, before: int) -> int | None:
         """The last step in a stretch, without its end. None where there is none, or a stall."""

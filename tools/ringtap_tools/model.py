@@ -110,10 +110,7 @@ class Reader:
     __slots__ = ("stalls", "takes_all", "delay", "beat", "number", "time")
 
     def __init__(self, pace: Pace, block_size: int) -> None:
-        self.stalls = sorted(
-            (int(start * MILLISECOND), int((start + length) * MILLISECOND))
-            for start, length in pace.stalls
-        )
+        self.stalls = pace.stall_times()
         self.takes_all = not (pace.blocks or pace.bytes)
         self.delay = None if pace.poll is None else int(pace.poll * MILLISECOND)
         self.beat = steps_of(pace, block_size)
@@ -132,23 +129,14 @@ class Reader:
         elif self.beat is None:
             return NEVER
         else:
-            self.number = max(self.number + 1, self.beat.first_from(handed))
-            self.time = self.step()
+            number = max(self.number + 1, self.beat.first_from(handed))
+            self.number, self.time = self.beat.awake_from(number, self.stalls)
         return self.time
 
     def awake(self, time: int) -> int:
         for start, stop in self.stalls:
             if start <= time < stop:
                 time = stop
-        return time
-
-    def step(self) -> int:
-        """The moment of the next step that isn't in a stall."""
-        time = self.beat.moment(self.number)
-        for start, stop in self.stalls:
-            if start <= time < stop:
-                self.number = self.beat.first_from(stop)
-                time = self.beat.moment(self.number)
         return time
 
 
