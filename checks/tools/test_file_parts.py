@@ -116,6 +116,26 @@ def test_line(here: Here, monkeypatch: pytest.MonkeyPatch) -> None:
     assert found["smallest"] == {"blocks": 3, "phase": 1, "begin": 2}
     made = here.with_program("long.py", "many.txt", "--smallest")
     assert made.printed.splitlines()[-1] == "no smallest ring: nobody reads"
+    made = here.with_program("long.py", *words, "--from", "2")
+    assert "never freezes, at every whole millisecond of the timer: 3 blocks" in made.printed
+
+
+def test_no_smallest_ring(here: Here, monkeypatch: pytest.MonkeyPatch) -> None:
+    """Of nothing that comes, and of a part, none is asked for; the status is 4."""
+    monkeypatch.setenv("RINGSIZE", str(stand_in(here, READER)))
+    here.text("none.ddd", "1\n6 0 0 0\n")
+    here.capture("none.pcap", [])
+    here.saved("part.pcap", (here.path / "many.pcap").read_bytes()[:-1])
+    for lines, reason in (
+        ("cpu many.pcap\nfilter none.ddd\n", "the filter refuses each of 100 arrivals"),
+        ("cpu none.pcap\n", "no frame arrives"),
+        ("cpu part.pcap\n", "part.pcap ends truncated 7548 after 99 frames"),
+    ):
+        here.text("no.txt", BLOCK + lines)
+        made = here.with_program("long.py", "no.txt", "--pause", "10", "--smallest")
+        last = made.printed.splitlines()[-1]
+        assert (last, made.status) == (f"no smallest ring: {reason}", 4)
+    assert not (here.path / "told").exists()
 
 
 @pytest.mark.skipif(not RINGSIZE.exists(), reason="needs ringsize: none is built")

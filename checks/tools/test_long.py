@@ -18,6 +18,7 @@ from ringtap_tools.cut_rings import BlockRing
 from ringtap_tools.deals import PieceRoom
 from ringtap_tools.files import Fault, read_setup
 from ringtap_tools.long import LongRun, lines_of, parser_of
+from ringtap_tools.runs import Report
 from ringtap_tools.schedule import pace_of
 from second.capture_bytes import header
 from second.hash_values import KEY
@@ -170,6 +171,26 @@ def test_pauses(here: Here) -> None:
         "",
         "5 pieces begun: 1 at the run's begin, 4 at a pause",
     ]
+
+
+def test_little_is_on_the_disk(here: Here, monkeypatch: pytest.MonkeyPatch) -> None:
+    """Of frames of 14 bytes, whose dump is the largest beside their capture, pieces of a MiB have
+    eight times that in the folder at most; so it is 64 MiB with pieces of 8 MiB."""
+    sizes, replay = [], PieceRoom.replay
+
+    def watched(room: PieceRoom, *words: str) -> Report:
+        report = replay(room, *words)
+        found = [path for path in room.folder.iterdir() if not path.is_symlink()]
+        sizes.append(sum(path.stat().st_size for path in found if path.exists()))
+        return report
+
+    monkeypatch.setattr(PieceRoom, "replay", watched)
+    monkeypatch.chdir(here.path)
+    here.capture("small.pcap", [(20 * number, frame(number, 14)) for number in range(90_000)])
+    here.text("setup.txt", BLOCK + "cpu small.pcap\n")
+    run = in_pieces(here, ["--piece", str(1 << 20), "--blocks", "900"])
+    assert sum(count.totals()[0] for count in run.counts) == 90_000
+    assert len(sizes) > 4 and 1 << 20 < max(sizes) < 8 << 20
 
 
 def test_more_members_than_a_run_has(here: Here) -> None:

@@ -65,3 +65,11 @@ def test_page(here: Here) -> None:
     numbers = json.loads(kept[1].replace("<\\/", "</"))
     assert numbers["sizes"]["rings"] == found["rings"]
     assert "<b>5 blocks of 4,096 bytes</b>" in text
+
+
+def test_no_answer(here: Here) -> None:
+    """Of no frame no page is made, and the capture has the name that the user gave it."""
+    here.capture("none.pcap", [])
+    answer = here.with_program("report.py", "none.pcap", "-o", "page.html")
+    said = "report.py: ring_size.py: none.pcap: no frame: no answer\n"
+    assert answer == ("", said, 4) and not (here.path / "page.html").exists()

@@ -90,6 +90,56 @@ def test_ring_of(here: Here) -> None:
     ]
 
 
+def shown(here: Here, ring: str, name: str = "x", more: str = "") -> Answer:
+    """What ring_of.py answers of one socket, of which ss showed such a ring."""
+    line = f'p_raw 0 0 *:lo * users:(("{name}",pid=9,fd=4)) ino:7 sk:1\n\tver:2 flags( running )\n'
+    (here.path / "shown.txt").write_text(f"{line}\tring_rx({ring})\n{more}")
+    return here.tool("ring_of.py", "x.pcap", "--from", "shown.txt")
+
+
+RING = "blk_size:4096,blk_nr:{},frm_size:2160,frm_nr:{},tmo:{},features:0x0"
+
+
+def test_slots_in_other_blocks(here: Here) -> None:
+    """986 blocks of one slot of 2,160 bytes are more than 256. 36,864 bytes have 17, and 58 times
+    17 are 986: no smaller block has 2, 17, 29 or 34 of them."""
+    shown(here, RING.format(986, 986, 0))
+    text = (here.path / "shown.txt").read_text().replace("ver:2", "ver:1")
+    here.text("shown.txt", text)
+    lines = here.tool("ring_of.py", "x.pcap", "--from", "shown.txt").printed.split("\n")
+    assert lines[1] == (
+        "# It has its 986 slots in 986 blocks of 4096 bytes, which makes no difference."
+    )
+    assert lines[3:7] == ["block_size 36864", "block_nr 58", "frame_size 2160", "frame_nr 986"]
+
+
+def test_odd_words(here: Here) -> None:
+    """What ss may show of another kernel is a sentence, and no name puts a line into a setup."""
+    for ring in ("blk_size:4096", "odd", RING.format("x", 2, 0), RING.format(-2, 2, 0)):
+        assert shown(here, ring).said.startswith("ring_of.py: ss: "), ring
+    assert shown(here, RING.format(2, 2, -1)).said.startswith("ring_of.py: ss: no ring has such")
+    for more in ("\tbpf filter (2): 0x6 0 0\n", "\tbpf filter (1): ret 0 0 1\n"):
+        said = shown(here, RING.format(2, 2, 0), more=more).said
+        assert said.startswith("ring_of.py: ss: a filter in words that aren't known"), more
+    answer = shown(here, RING.format(2, 2, 0), "a\u00e9\x1b\x85")
+    assert answer.printed.split("\n")[0] == "# The ring of a??? (pid 9) on lo, as ss shows it."
+    said = "can't stand in a setup: ASCII without blanks, of at most 255 bytes\n"
+    for name in ("a b.pcap", "a\nblock_nr 9", "\u00e9.pcap", "x" * 256):
+        answer = here.tool("ring_of.py", name, "--from", "shown.txt")
+        assert answer == ("", f"ring_of.py: the name {name!r} {said}", 1)
+    answer = ring_of(here, "--inode", "137704", "-o", "a b.txt")
+    assert answer == ("", f"ring_of.py: the name 'a b.txt.ddd' {said}", 1)
+    assert not (here.path / "a b.txt").exists()
+
+
+def test_a_comment_is_one_line(here: Here) -> None:
+    """Of the name of a suricata.yaml too."""
+    name = here.text("s\nblock_nr 9.yaml", "af-packet:\n  - interface: a\u00e9\n")
+    answer = here.tool("ring_of.py", "x.pcap", "--suricata", name)
+    first = answer.printed.split("\n")[0]
+    assert first.startswith("# The ring that Suricata asks for on a?, by s?block_nr 9.yaml. By its")
+
+
 @pytest.mark.needs("packet sockets", "ss")
 def test_live_ring(here: Here) -> None:
     """A ring of this process."""

@@ -52,7 +52,7 @@ def test_judged(here: Here) -> None:
     steady(here)
     printed = here.with_program("ring_size.py", "steady.txt").printed
     least = "the smallest ring that never freezes, at every whole millisecond of the timer"
-    assert f"{least}: 5 blocks" in printed
+    assert f"{least}: 5 blocks" in printed and " (any larger one is as good)\n" in printed
     judged = "`ringtap replay` judged: 5 blocks never freeze; 4 blocks freeze"
     assert f"of 56, and there {judged}\n" in printed
     assert printed.endswith("about this capture: 112 frames in 0.111 s; whole\n")
@@ -81,6 +81,26 @@ def test_keys(here: Here) -> None:
     printed = here.with_program("ring_size.py", "flows.txt").printed
     assert f"mode hash: the setup's key needs {own['least']['block_nr']} block" in printed
     assert "a kernel's key is a secret of its boot, so the worst counts" in printed
+    # A member that needs n blocks has n flows: two blocks lose n - 2 of them, of 28 packets each.
+    (needs,) = most["keys"]
+    fewest, largest = needs["others"]
+    assert (needs["own"], largest, needs["count"]) == (own["least"]["block_nr"], 4, 16)
+    losses = [28 * (count - 2) for count in (needs["own"], min(needs["own"], fewest), 4)]
+    by_keys = {"own": [losses[0]] * 2, "all": losses[1:], "phases": 8}
+    assert most["rings"][0]["by_keys"] == by_keys and own["rings"][0]["by_keys"] is None
+    spans = f"{losses[0]} packets under the setup's key, and {losses[1]} to 56 under it and 16"
+    assert f"2 blocks lose {spans} further ones, at 8 phases of the timer\n" in printed
+
+
+def test_keys_of_suricata(here: Here) -> None:
+    """Of 227 datagrams of 60 bytes a flow fills a block of 32,768 bytes: 144 each. Its ring is for
+    the worst key too, under which one thread has all four flows."""
+    flows = [datagram_between((1, 1000 + number), (2, 53), 18) for number in range(4)]
+    here.capture("flows.pcap", [(at, flows[at // 227]) for at in range(4 * 227)])
+    here.text("flows.txt", BLOCK + f"cpu flows.pcap\nmembers 2\nmode hash\nkey {KEY}\n")
+    found = json.loads(here.with_program("ring_size.py", "flows.txt", "--json").printed)
+    assert (found["suricata"]["blocks"], found["suricata"]["is_judged"]) == (4, True)
+    assert found["suricata"]["ring-size"] == str(4 * 20 - 1)
 
 
 def test_poll(here: Here) -> None:
@@ -135,3 +155,21 @@ def test_the_answer_is_marked(here: Here) -> None:
     assert (two["block_nr"], two["drops"], two["freezes"]) == (2, 0, 1)
     assert found["least"]["block_nr"] == 3
     assert "smallest: 12 KiB" in (here.path / "made" / "drops.svg").read_text()
+    printed, _, status = here.with_program("ring_size.py", *words[:3], "--block-nr", "2")
+    assert "every ring that was tried freezes: no ring suffices\n" in printed and status == 3
+
+
+def test_the_readers_beginning(here: Here) -> None:
+    """Where not all beginnings were tried the words have the one that was: a period of a third of
+    a second, 40 ms where that is asked for, none of a reader that waits for blocks."""
+    steady(here)
+    whole = "at every whole millisecond of the timer"
+    for words, said, first in (
+        (["--blocks", "3"], ", for a reader whose first step comes 333.333 ms after", 333.333333),
+        (["--pause", "7", "--from", "40"], ", for a reader whose first step comes 40 ms after", 40),
+        (["--poll"], ": 2 blocks", None),
+    ):
+        printed = here.with_program("ring_size.py", "steady.txt", *words).printed
+        assert f"the smallest ring that never freezes, {whole}{said}" in printed
+        found = json.loads(here.with_program("ring_size.py", "steady.txt", *words, "--json")[0])
+        assert (found["reader"]["first_step"], found["is_every_beginning"]) == (first, False)

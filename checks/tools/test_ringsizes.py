@@ -47,7 +47,9 @@ def worst(here: Here, monkeypatch: pytest.MonkeyPatch) -> tuple[int, int, int]:
 
 def answered(blocks: int, phase: int, begin: int) -> str:
     place = f"blocks {blocks} phase {phase} from {begin}"
-    return f"cpu 0 frames 52 arrivals 52 end ok\nmember 0 {place}\ngroup {place}"
+    drops = "drops least 0 phase 0 from 0 most 9 phase 0 from 0"
+    rings = f"member 0 {place}\ngroup {place}\nmember 0 {drops}\ntotal {drops}"
+    return f"cpu 0 frames 52 arrivals 52 end ok\n{rings}"
 
 
 def test_it_finds_and_replay_judges(here: Here, monkeypatch: pytest.MonkeyPatch) -> None:
@@ -59,6 +61,8 @@ def test_it_finds_and_replay_judges(here: Here, monkeypatch: pytest.MonkeyPatch)
     judged = f"{blocks} blocks never freeze; {blocks - 1} blocks freeze"
     where = f"at phase {phase} of 8, and there `ringtap replay` judged"
     assert f"{found}, {where}: {judged}" in made.printed
+    tried = "at every whole millisecond of the timer and of the reader's beginning"
+    assert f"the smallest ring that never freezes, {tried}: {blocks} blocks" in made.printed
     lines = asked.read_text().splitlines()
     assert ["block_size 4096", "members 1"] == [
         line for line in lines if line.startswith(("block_size 4096", "members 1"))

@@ -1,6 +1,8 @@
 """What is said where a group rolls over, and what a kernel would lose, by a sum by hand."""
 from __future__ import annotations
 
+import json
+
 from tools.here import BLOCK, Here, frame
 
 NOTE = "rollover: a kernel loses more, in measured runs up to 39 percent"
@@ -23,6 +25,12 @@ def test_kernel_by_hand(here: Here) -> None:
     assert answer.said.startswith(NOTE)
     assert "by the tool's own model: 203 dropped by 4 blocks" in answer.printed
     assert "the program drops 176\n" in answer.printed
+    found = json.loads(here.with_program("ring_size.py", *words, "--json").printed)
+    assert [ring["kernel_drops"] for ring in found["rings"]] == [203]
+    answer = here.with_program("report.py", "many.txt", "--tick", "0", "-o", "page.html")
+    assert (answer.said.count(NOTE), answer.status) == (1, 0)
+    page = (here.path / "page.html").read_text()
+    assert "most, as a kernel rolls over" in page and page.count(NOTE) == 1
 
 
 def test_note_everywhere(here: Here) -> None:
@@ -31,6 +39,8 @@ def test_note_everywhere(here: Here) -> None:
     for flag, count in (("flag rollover\n", 1), ("", 0)):
         here.text("few.txt", BLOCK + f"members 2\nmode cpu\n{flag}cpu few.pcap\n")
         for name in ("lost.py", "timeline.py"):
-            assert here.with_program(name, "few.txt", "/dev/null").said.count(NOTE) == count
+            for words in ([], ["--json"]):
+                said = here.with_program(name, "few.txt", "/dev/null", *words).said
+                assert said.count(NOTE) == count
         words = ["replay", "few.txt", "/dev/null", "--into", f"run{count}"]
         assert here.with_program("run.py", *words).said.count(NOTE) == count

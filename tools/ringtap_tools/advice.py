@@ -9,8 +9,9 @@ from __future__ import annotations
 from dataclasses import dataclass, replace
 
 from .captures import LARGEST_CAPTURE
+from .files import Fault
 from .ringsizes import Finder
-from .search import Least, Model
+from .search import Least, Model, keys_of
 from .suricata_rings import DEFAULT_BLOCK, DEFAULT_TIMEOUT
 from .trials import LEAST_BLOCKS, RESERVED, ROLLOVER, Ring, Trials, begun, longer
 
@@ -52,9 +53,13 @@ class Advice:
         return {**asked, "blocks": self.blocks, "is_judged": self.is_judged}
 
 
-def least_of(finder: Finder, trials: Trials, model: Model, ring: Ring) -> tuple[Least, bool]:
-    """The smallest ring of a program, and whether that was judged."""
-    least = finder.find(model, trials, ring, model.worst_least(ring))[0]
+def least_of(
+    finder: Finder, trials: Trials, model: Model, ring: Ring, keys: int = 0
+) -> tuple[Least, bool]:
+    """The smallest ring of a program, of a hash under the worst of so many further keys, and
+    whether that was judged."""
+    worst = keys_of(model, ring, keys).worst
+    least = finder.find(model, trials, ring, worst)[0]
     model = model.with_pace(begun(model.pace, least.begin))
     return least, judged(trials, model, ring, least)
 
@@ -71,10 +76,10 @@ def judged(trials: Trials, model: Model, ring: Ring, least: Least) -> bool:
 
 
 def advice_of(
-    finder: Finder, trials: Trials, model: Model, ring: Ring, is_reserved: bool
+    finder: Finder, trials: Trials, model: Model, ring: Ring, is_reserved: bool, keys: int
 ) -> list[Advice]:
     """How programs are asked for rings that never freeze, of what the answer's ring is for."""
-    found = without_reserve(finder, trials, model, ring)
+    found = without_reserve(finder, trials, model, ring, keys if ring.mode == "hash" else 0)
     timeouts = (
         {TCPDUMP_TIMEOUT, DUMPCAP_TIMEOUT} if ring.timeout == TCPDUMP_TIMEOUT else {ring.timeout}
     )
@@ -89,12 +94,14 @@ def advice_of(
     return found
 
 
-def without_reserve(finder: Finder, trials: Trials, model: Model, ring: Ring) -> list[Advice]:
+def without_reserve(
+    finder: Finder, trials: Trials, model: Model, ring: Ring, keys: int
+) -> list[Advice]:
     """Suricata's ring, of the captures as they are."""
     captures, reads = trials.captures, trials.reads
     model = model.with_reserve(0)
     trials.captures, trials.reads = None, model.reads if reads else None
-    found = suricata(finder, trials, model, ring)
+    found = suricata(finder, trials, model, ring, keys)
     trials.captures, trials.reads = captures, reads
     return found
 
@@ -111,6 +118,16 @@ def use_longer(trials: Trials) -> bool:
     return max(sizes) <= LARGEST_CAPTURE
 
 
+def make_longer(trials: Trials) -> None:
+    """The same where the ring itself is one of libpcap's."""
+    if not use_longer(trials):
+        raise Fault(
+            f"{trials.room.setup.path}: with libpcap's bytes its captures are more than the 32 MiB"
+            " that ringtap reads"
+        )
+    trials.reserved = RESERVED
+
+
 def libpcap(finder: Finder, trials: Trials, model: Model, ring: Ring) -> Advice:
     """The ring of tcpdump or of dumpcap, whose time-outs differ."""
     least, is_judged = least_of(finder, trials, model, ring)
@@ -121,7 +138,9 @@ def libpcap(finder: Finder, trials: Trials, model: Model, ring: Ring) -> Advice:
     return Advice(line.split()[0], (line,), blocks, is_judged)
 
 
-def suricata(finder: Finder, trials: Trials, model: Model, ring: Ring) -> list[Advice]:
+def suricata(
+    finder: Finder, trials: Trials, model: Model, ring: Ring, keys: int
+) -> list[Advice]:
     """Suricata's own ring of as many members, where it has the mode."""
     mode = ring.mode
     if ring.members > 1 and mode not in CLUSTERS or mode.endswith(ROLLOVER) or mode == "rollover":
@@ -133,7 +152,7 @@ def suricata(finder: Finder, trials: Trials, model: Model, ring: Ring) -> list[A
         block_nr=LEAST_BLOCKS,
         frame_size=min(ring.frame_size, DEFAULT_BLOCK),
     )
-    least, is_judged = least_of(finder, trials, model, its)
+    least, is_judged = least_of(finder, trials, model, its, keys)
     blocks = max(least.blocks, LEAST_BLOCKS)
     lines = [
         f"block-size: {DEFAULT_BLOCK}",

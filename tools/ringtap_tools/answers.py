@@ -2,13 +2,14 @@
 the tools' own model, `ringtap replay` judging, or by that program alone at some phases."""
 from __future__ import annotations
 
+import time
 from dataclasses import replace
 
 from .about import refuse_filtered
 from .files import Fault
 from .ringsizes import ASKED, Finder
-from .runs import Progress, Report
-from .search import Least, Model, compare, key_of, keys_of, rung
+from .runs import Progress, Report, say_how_long
+from .search import Least, Model, compare, key_of, key_ranges, keys_of, rung
 from .trials import LEAST_BLOCKS, ROLLOVER, Result, Ring, Trials, begun, least_of, lines_of
 
 # At which an answer of fewer phases is run again, and those under other keys.
@@ -31,6 +32,7 @@ class Search:
         self.judgement: list[str] = []
         self.finders: set[str] = set()  # ringsize, model
         self.key_words: list[str] = []
+        self.key_needs: list[dict[str, object]] = []  # the same in numbers
         self.filtered = 0
         self.reports: dict[tuple[Ring, Least, int], Report] = {}
 
@@ -64,11 +66,13 @@ class Search:
         """The rings of a grid that differ in the number of blocks alone. Where that number is open,
         it is doubled up to the answer."""
         ring = rings[0]
-        keys = keys_of(self.model, ring, self.keys if ring.mode == "hash" else 0)
+        is_dealt = ring.mode == "hash" and ring.members > 1
+        keys = keys_of(self.model, ring, self.keys if is_dealt else 0)
         least, found = self.finder.find(self.model, self.trials, ring, keys.worst)
         self.finders.add("ringsize" if found.startswith(ASKED) else "model")
         if keys.others:
             self.key_words.append(keys.words())
+            self.key_needs.append({"members": ring.members, **keys.object()})
         wanted, blocks = {one.block_nr for one in rings}, max(least.blocks, LEAST_BLOCKS)
         if is_open:
             wanted |= set(rung(ring, blocks))
@@ -77,9 +81,20 @@ class Search:
         counts = [count for count in sorted(wanted) if replace(ring, block_nr=count).fits]
         looked = [self.result(replace(ring, block_nr=count), least) for count in counts]
         results = [replace(one, never_freezes=one.ring.block_nr >= blocks) for one in looked]
+        if keys.others:
+            results = self.under_keys(results, least, len(keys.others))
         answer = next((one for one in results if one.ring.block_nr >= blocks), None)
         self.judgement.append(self.judged(ring, least, found, answer))
         return results, answer
+
+    def under_keys(self, results: list[Result], least: Least, count: int) -> list[Result]:
+        """The same with what each ring loses under the setup's key, and under further ones."""
+        rings = [one.ring for one in results]
+        ranges = key_ranges(self.model_for(least), rings, count)
+        for ring, one in zip(rings, ranges):
+            if one.all[1]:
+                self.key_words.append(one.words(ring, count))
+        return [replace(result, by_keys=one) for result, one in zip(results, ranges)]
 
     def judged(self, ring: Ring, least: Least, found: str, answer: Result | None) -> str:
         """What the program says at the worst phase: of the answer, and of one block less."""
@@ -157,9 +172,11 @@ def raised(trials: Trials, least: Result, keys: int, is_sure: bool) -> Result | 
         others = [key_of(number) for number in range(1, keys + 1)]
         wanted += [(phase, key) for key in others for phase in trials.phases_of(ring)]
     trials.phases = few
-    progress = Progress(len(wanted), "runs of the answer")
-    for phase, key in wanted:
+    progress, begin = Progress(len(wanted), "runs of the answer"), time.monotonic()
+    for count, (phase, key) in enumerate(wanted):
         report = trials.run(ring, phase, key=key)
+        if count == 0:
+            say_how_long(f"{len(wanted)} runs", (time.monotonic() - begin) * len(wanted))
         progress.step()
         if report.drops:
             phases = (phase, least.worst_phase)
@@ -171,15 +188,21 @@ def rolls_over(ring: Ring) -> bool:
     return ring.members > 1 and (ring.mode.endswith(ROLLOVER) or ring.mode == "rollover")
 
 
-def kernel_words(model: Model, results: list[Result]) -> list[str]:
+def kernel_drops(model: Model, results: list[Result]) -> dict[Ring, int]:
     """What the rings lose as a kernel rolls over, at the same phase and under the same key."""
-    said = []
+    found = {}
     for result in filter(lambda one: rolls_over(one.ring), results):
         ring, phase, key = result.ring, result.worst_phase, result.key
         compare(ring, phase, model.courses(ring, phase, key), printed_counts(result.worst))
-        lost = sum(one.drops for one in model.courses(ring, phase, key, is_kernel=True))
-        said.append(
-            f"as a kernel rolls over, by the tool's own model: {lost:,} dropped by {ring.words()};"
-            f" the program drops {result.drops:,}"
-        )
-    return said
+        courses = model.courses(ring, phase, key, is_kernel=True)
+        found[ring] = sum(one.drops for one in courses)
+    return found
+
+
+def kernel_words(results: list[Result], lost: dict[Ring, int]) -> list[str]:
+    return [
+        f"as a kernel rolls over, by the tool's own model: {lost[one.ring]:,} dropped by"
+        f" {one.ring.words()}; the program drops {one.drops:,}"
+        for one in results
+        if one.ring in lost
+    ]

@@ -210,10 +210,12 @@ def predicted(args: argparse.Namespace, seen: Seen, folder: Path, program: Path)
     done = subprocess.run(command, cwd=folder, capture_output=True, text=True)
     if done.returncode not in (0, 3):
         raise Fault(f"ring_size.py: {done.stderr.strip()}")
+    print(done.stderr, end="", file=sys.stderr)
     found = json.loads(done.stdout)
-    return next(ring for ring in found["rings"] if ring["block_nr"] == int(blocks)) | {
-        "about": found["about"]
-    }
+    ring = next(ring for ring in found["rings"] if ring["block_nr"] == int(blocks))
+    if ring["by_keys"]:  # a kernel's key is a secret of its boot
+        ring["fewest"], ring["drops"] = ring["by_keys"]["all"]
+    return ring | {"about": found["about"]}
 
 
 def seconds_asked(args: argparse.Namespace, about: dict) -> float:

@@ -110,6 +110,12 @@ def steps_of(pace: Pace, block_size: int) -> Beat | None:
     return Beat(period) if pace.begin is None else Beat(period, -int(pace.begin * MILLISECOND), 0)
 
 
+def first_step(pace: Pace, block_size: int) -> Fraction | None:
+    """How many milliseconds after the first frame such a reader makes its first step."""
+    beat = steps_of(pace, block_size)
+    return beat and Fraction(beat.moment(beat.first), MILLISECOND)
+
+
 class Ticker:
     """The ticks that can do something. It knows each deadline that a ring can have: a tick that is
     due and a packet that opens a block set it to the clock plus the time-out."""

@@ -168,6 +168,21 @@ def number_of(text: str) -> int | None:
     return int(text) if int(text) <= LARGEST_NUMBER else None
 
 
+def is_name(name: str) -> bool:
+    """Whether a file can be named so in a setup."""
+    is_plain = name.isascii() and name.isprintable() and " " not in name
+    return is_plain and 1 <= len(name) <= LARGEST_NAME
+
+
+def refuse_name(name: str) -> None:
+    """Ends a tool that is to write a setup in which a file would have to be named so."""
+    if not is_name(name):
+        raise Fault(
+            f"the name {name!r} can't stand in a setup: ASCII without blanks, of at most"
+            f" {LARGEST_NAME} bytes"
+        )
+
+
 def read_setup(path: Path) -> Setup:
     """Reads a setup. What stands twice, and a line with a byte that isn't ASCII, is left for the
     program to refuse."""

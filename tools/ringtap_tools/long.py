@@ -21,6 +21,8 @@ from dataclasses import asdict, dataclass, field
 from itertools import compress
 from pathlib import Path
 
+from .about import NO_ANSWER, NoAnswer
+from .clock import steps_of
 from .cut_members import Cut, Limits, Member, Shape
 from .cut_pieces import Piece, less
 from .cut_rings import Counts
@@ -358,14 +360,31 @@ class PartsProgress:
             print(told, end="", file=sys.stderr, flush=True)
 
 
-def smallest_words(found: Sized | str, setup: Setup) -> str:
+def refuse_none(run: LongRun) -> None:
+    """NoAnswer where captures give no smallest ring: of nothing that comes, and of a part."""
+    for path, cpu in zip(run.setup.capture_paths(), (stream.count for stream in run.streams)):
+        if cpu.end != "ok":
+            raise NoAnswer(f"{path} ends {cpu.end} after {cpu.frames:,} frames")
+    arrivals = sum(stream.count.arrivals for stream in run.streams)
+    if not arrivals:
+        raise NoAnswer("no frame arrives")
+    if not any(count.totals()[0] for count in run.counts):
+        raise NoAnswer(f"the filter refuses each of {arrivals:,} arrivals")
+
+
+def smallest_words(found: Sized | str, setup: Setup, pace: Pace) -> str:
     if isinstance(found, str):
         return f"no smallest ring: {found}"
-    begin = f"a reader that begins {found.begin} ms after the first frame"
+    tried, begin = " and of the reader's beginning", ""
+    if not steps_of(pace, setup.number("block_size")):
+        tried = ""
+    else:
+        begin = f", for a reader that begins {found.begin} ms after the first frame"
+        tried = tried if pace.begin is None else ""
     return (
-        "the smallest ring that never freezes, at every whole millisecond of the timer and of the"
-        f" reader's beginning: {found.blocks} blocks of {setup.number('block_size')} bytes; so many"
-        f" are needed at phase {found.phase}, for {begin} (by `ringsize`)"
+        f"the smallest ring that never freezes, at every whole millisecond of the timer{tried}:"
+        f" {found.blocks} blocks of {setup.number('block_size')} bytes; so many are needed at phase"
+        f" {found.phase}{begin} (by `ringsize`)"
     )
 
 
@@ -374,12 +393,17 @@ def main(words: list[str]) -> int:
     setup, pace, program = read_setup(args.setup), pace_of(args), program_of(args.program)
     refuse(setup)
     smallest: Sized | str | None = None
+    status = 0
     with PieceRoom(setup, program) as room:
         room.check()
         run = LongRun(setup, room, pace, args)
         run.make()
         if args.smallest:
-            smallest = smallest_of(program, room, pace, args.replay2)
+            try:
+                refuse_none(run)
+                smallest = smallest_of(program, room, pace, args.replay2)
+            except NoAnswer as fault:
+                smallest, status = str(fault), NO_ANSWER
     if args.json:
         print_json(object_of(run) | smallest_object(smallest))
         if isinstance(smallest, str):
@@ -387,8 +411,8 @@ def main(words: list[str]) -> int:
     else:
         print("\n".join([*lines_of(run), "", cuts_words(run)]))
         if smallest:
-            print(smallest_words(smallest, setup))
-    return 0
+            print(smallest_words(smallest, setup, pace))
+    return status
 
 
 def smallest_object(found: Sized | str | None) -> dict[str, object]:

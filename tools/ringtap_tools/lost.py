@@ -101,6 +101,8 @@ def mark_replay(room: Room, captures: list[Frames], schedule: str) -> None:
 def earlier_outputs(setup: Setup) -> list[Path]:
     """What an earlier run saved."""
     paths = [Path(name) for name in output_names(setup, "replay") if name.endswith(".pcap")]
+    if not paths:
+        raise Fault(f"{setup.path}, line {setup.places['members']}: a group has a member or more")
     for path in paths:
         if not path.is_file():
             raise Fault(
@@ -533,11 +535,11 @@ def main(words: list[str]) -> int:
     check_outputs([args.picture, args.save], [args.schedule] if args.schedule else earlier, setup)
     with Room(setup, program) as room:
         answer = find(room, args)
+    for note in rollover_note(setup):
+        print(note, file=sys.stderr)
     if args.json:
         print_json(object_of(answer, args))
     else:
-        for note in rollover_note(setup):
-            print(note, file=sys.stderr)
         print_text(answer, args)
     if args.picture:
         save_picture(

@@ -232,19 +232,6 @@ def course_of(packets: Packets, blocks: int, timer: Timer, reader: Reader, end: 
             is_open = True
 
 
-def least_slots(given: Given, reader: Reader) -> int:
-    """The fewest slots of TPACKET_V2 with which nothing is lost."""
-    reader.begin()
-    back: deque[int] = deque()
-    least = 0
-    for time in given.times:
-        while back and back[0] < time:
-            back.popleft()
-        back.append(reader.taken(time))
-        least = max(least, len(back))
-    return max(least, 1)
-
-
 def course_of_slots(given: Given, slots: int, reader: Reader) -> Course:
     """A ring of so many slots: each packet is one, which is handed over at once."""
     reader.begin()

@@ -15,8 +15,9 @@ import sys
 from html import escape
 from pathlib import Path
 
-from .about import about_words
+from .about import NO_ANSWER, NoAnswer, about_words
 from .files import Fault, Setup
+from .notes import rollover_note
 from .outputs import check_outputs, write_text
 from .ring_size import NONE_SUFFICES, is_made, reader_words, setup_of
 from .runs import Progress, Room, add_program, program_of
@@ -75,10 +76,15 @@ class Work:
         )
         self.progress.step()
         if done.returncode not in statuses:
-            raise Fault(
-                f"{name}: {done.stderr.strip() or done.stdout.strip() or 'it ended without a word'}"
-            )
+            kind = NoAnswer if done.returncode == NO_ANSWER else Fault
+            raise kind(self.named(done.stderr.strip() or done.stdout.strip()))
         return done.stdout
+
+    def named(self, said: str) -> str:
+        """What a tool says, with the names that the captures have outside."""
+        for name, path in zip(self.room.captures, self.room.setup.capture_paths()):
+            said = said.replace(name, str(path))
+        return said or "a tool ended without a word"
 
     def object(self, name: str, *words: str, statuses: tuple[int, ...] = (0,)) -> dict:
         more = ["--program", str(self.room.program), "--json"]
@@ -180,6 +186,7 @@ def answer_words(found: dict) -> str:
     if least is None:
         return "Every ring that was tried loses packets."
     where = ", at every whole millisecond of the timer" if found["is_every_millisecond"] else ""
+    where += " and of the reader's beginning" if found["is_every_beginning"] else ""
     does = "never freezes" if found["is_every_millisecond"] else "loses nothing"
     return (
         f"The smallest ring that {does}{where}: <b>{least['block_nr']} blocks of"
@@ -197,7 +204,42 @@ def finder_words(found: dict) -> str:
     return f"Found by {whose} and judged by"
 
 
-def page_of(title: str, assumed: str, made: dict, pictures: dict[str, str]) -> str:
+def begin_words(found: dict) -> str:
+    """What is assumed of the reader's beginning, where not all were tried."""
+    first = found["reader"]["first_step"]
+    if first is None or found["is_every_beginning"]:
+        return ""
+    return f", first {first:g} ms after the first frame"
+
+
+# Of what is known of some rings alone: a column's head, and where it is in the JSON.
+MORE_COLUMNS = {
+    "fewest, any key": ("by_keys", "all", 0),
+    "most, any key": ("by_keys", "all", 1),
+    "most, as a kernel rolls over": ("kernel_drops",),
+}
+
+
+def sizes_table(rings: list[dict]) -> str:
+    """What each ring loses."""
+    heads = ["blocks", "bytes", "fewest", "most", "worst phase", "freezes"]
+    names = ("block_nr", "memory", "fewest", "drops", "phase", "freezes")
+    rows = [[ring[name] for name in names] for ring in rings]
+    for head, (name, *places) in MORE_COLUMNS.items():
+        if any(ring[name] is None for ring in rings):
+            continue
+        heads.append(head)
+        for row, ring in zip(rows, rings):
+            value = ring[name]
+            for place in places:
+                value = value[place]
+            row.append(value)
+    return rows_of(heads, rows)
+
+
+def page_of(
+    title: str, assumed: str, made: dict, pictures: dict[str, str], notes: list[str]
+) -> str:
     """The whole page."""
     found, shown, lost = made["sizes"], made["shown"], made["lost"]
     about = [
@@ -216,10 +258,6 @@ def page_of(title: str, assumed: str, made: dict, pictures: dict[str, str]) -> s
     captures = [
         [one.path, one.frames, one.last / 1e9, one.cut, "-" if one.drops is None else one.drops]
         for one in about
-    ]
-    sizes = [
-        [ring[name] for name in ("block_nr", "memory", "fewest", "drops", "phase", "freezes")]
-        for ring in found["rings"]
     ]
     flows = [
         [flow["flow"], flow["kept"], flow["lost"], flow["bytes_lost"]]
@@ -241,9 +279,10 @@ def page_of(title: str, assumed: str, made: dict, pictures: dict[str, str]) -> s
         + "</p>",
         f"<p>{escape(about_words(about, found['about']['filtered']).capitalize())}.</p>",
         (
-            f"<p>Assumed of the reader: {escape(assumed)}. {finder_words(found)}"
-            " <code>ringtap replay</code>.</p>"
+            f"<p>Assumed of the reader: {escape(assumed)}{begin_words(found)}."
+            f" {finder_words(found)} <code>ringtap replay</code>.</p>"
         ),
+        *(f"<p>{escape(note)}.</p>" for note in notes),
         "<h2>The captures</h2>",
         rows_of(["capture", "frames", "seconds", "cut frames", "drops it tells of"], captures),
         "<h2>What smaller rings lose</h2>",
@@ -251,7 +290,7 @@ def page_of(title: str, assumed: str, made: dict, pictures: dict[str, str]) -> s
             "<p>Packets dropped at the best and at the worst phase of the timer, that phase in"
             " milliseconds, and how often the ring freezes there.</p>"
         ),
-        rows_of(["blocks", "bytes", "fewest", "most", "worst phase", "freezes"], sizes),
+        sizes_table(found["rings"]),
         f'<div class="picture">{pictures["drops"]}</div>',
         f"<h2>A ring of {shown['block_nr']} blocks over time</h2>",
         (
@@ -310,11 +349,18 @@ def main(words: list[str]) -> int:
     options = reader_options(args, setup)
     if "--pause" in options and args.pause is None:
         args.pause = int(DEFAULT_PAUSE)
+    notes = rollover_note(setup)
+    for note in notes:
+        print(note, file=sys.stderr)
     with Room(setup, program) as room:
         names = room.captures
         room.write_setup("setup.txt", {"out": "shown", "dump": None}, names)
         work = Work(room, options, progress)
-        made = gathered(work, setup)
+        try:
+            made = gathered(work, setup)
+        except NoAnswer as fault:
+            print(f"{Path(sys.argv[0]).name}: {fault}", file=sys.stderr)
+            return NO_ANSWER
         for one, path in zip(made["sizes"]["about"]["captures"], setup.capture_paths()):
             one["path"] = str(path)
         ring = f"{made['shown']['block_nr']} blocks, phase {made['shown']['phase']}"
@@ -330,7 +376,8 @@ def main(words: list[str]) -> int:
     title = (
         f"The ring for {shown}" if is_made(setup) else f"{setup.path.name}: the ring for {shown}"
     )
-    write_text(args.output, page_of(title, reader_words(pace_of(args), "blocks"), made, pictures))
+    assumed = reader_words(pace_of(args), "blocks")
+    write_text(args.output, page_of(title, assumed, made, pictures, notes))
     if args.json:
         print_json(made | {"output": str(args.output)})
     else:

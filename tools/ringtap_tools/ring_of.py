@@ -19,7 +19,7 @@ import sys
 from dataclasses import dataclass
 from pathlib import Path
 
-from .files import LARGEST_NAME, Fault, read_bytes
+from .files import Fault, read_bytes, refuse_name
 from .notes import ROLLOVER_NOTE
 from .outputs import check_outputs, write_text
 from .runs import table
@@ -66,14 +66,14 @@ class Socket:
             ", ".join(f"{name} (pid {pid})" for name, pid in self.users)
             or "a process that ss doesn't show"
         )
-        return "".join(char if char.isprintable() else "?" for char in f"{names} on {self.device}")
+        return shown(f"{names} on {self.device}")
 
 
 def entries(text: str) -> list[str]:
     """The sockets that ss shows, each in one line: lines that begin with a blank belong to the one
     before."""
     found: list[str] = []
-    for line in text.splitlines():
+    for line in text.split("\n"):
         if line[:1].isspace() and found:
             found[-1] += " " + line.strip()
         elif line.startswith("p_"):
@@ -94,7 +94,7 @@ def socket_of(entry: str) -> Socket | None:
         ]
     except (KeyError, ValueError):
         raise Fault(f"ss: a ring in words that aren't known: ring_rx({ring[1]})") from None
-    if min(numbers[:3]) < 1 or numbers[2] > numbers[0]:
+    if min(numbers[:3]) < 1 or numbers[2] > numbers[0] or min(numbers) < 0:
         raise Fault(f"ss: no ring has such numbers: ring_rx({ring[1]})")
     device = re.search(r"(?:\s|])\S*?:(\S+)\s+\*", entry)
     fanout = re.search(r"fanout\(id:(\d+),type:(\w+)", entry)
@@ -353,8 +353,9 @@ def suricata_setup(args: argparse.Namespace) -> str:
     inside = asked.block_size // asked.frame_size
     lines = [
         (
-            f"# The ring that Suricata asks for on {asked.name}, by {args.suricata}. By its source"
-            " (AFPComputeRingParamsV3 in source-af-packet.c) and"
+            f"# The ring that Suricata asks for on {shown(asked.name)}, by"
+            f" {shown(str(args.suricata))}. By its source (AFPComputeRingParamsV3 in"
+            " source-af-packet.c) and"
         ),
         (
             f"# documentation, not run here: frames of {asked.frame_size} bytes, {inside} in a"
@@ -368,20 +369,15 @@ def suricata_setup(args: argparse.Namespace) -> str:
     expression = asked.word("bpf-filter", "")
     if expression:
         lines.append(
-            f"# Its filter: tcpdump -y EN10MB -ddd '{expression}' >FILE, and a line `filter FILE`."
+            f"# Its filter: tcpdump -y EN10MB -ddd '{shown(expression)}' >FILE, and a line"
+            " `filter FILE`."
         )
     return "\n".join(lines) + "\n"
 
 
-def check_name(name: str) -> None:
-    """Whether a setup can name a capture so."""
-    if not (
-        name.isascii() and name.isprintable() and " " not in name and 1 <= len(name) <= LARGEST_NAME
-    ):
-        raise Fault(
-            f"the name {name!r} can't stand in a setup: ASCII without blanks, of at most"
-            f" {LARGEST_NAME} bytes"
-        )
+def shown(words: str) -> str:
+    """Words from outside as they may stand in a comment: printed ASCII in one line."""
+    return "".join(char if char.isascii() and char.isprintable() else "?" for char in words)
 
 
 def shown_by_ss() -> str:
@@ -462,6 +458,8 @@ def answer_of(args: argparse.Namespace) -> Answer:
     group = chosen(groups_of(sockets), args)
     instructions = group[0].filter
     filter_name = f"{args.output}.ddd" if instructions and args.output else None
+    if filter_name:
+        refuse_name(filter_name)
     warnings = warnings_of(group[0], is_live=not args.shown)
     if instructions and not args.output and not args.json:
         said = f"the socket has a filter of {len(instructions)} instructions, which -o saves"
@@ -495,7 +493,7 @@ def main(words: list[str]) -> int:
     if args.threads is not None and args.threads < 1:
         raise Fault("--threads: a number of at least 1")
     for name in args.captures:
-        check_name(name)
+        refuse_name(name)
     outputs = [args.output, Path(f"{args.output}.ddd")] if args.output else []
     check_outputs(outputs, [*map(Path, args.captures), *filter(None, [args.shown, args.suricata])])
     answer = answer_of(args)

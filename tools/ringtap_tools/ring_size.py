@@ -23,21 +23,21 @@ import itertools
 import sys
 import tempfile
 from collections import Counter
-from dataclasses import dataclass, replace
+from dataclasses import asdict, dataclass, replace
 from fractions import Fraction
 from pathlib import Path
 from typing import Callable
 
 from .about import NO_ANSWER, NoAnswer, about_object, about_words, refuse_filtered, refuse_parts
-from .advice import Advice, advice_of, use_longer
-from .answers import Search, every_phase, few_phases, kernel_words, rolls_over
+from .advice import Advice, advice_of, make_longer
+from .answers import Search, every_phase, few_phases, kernel_drops, kernel_words, rolls_over
 from .captures import GZIP_MAGIC, LARGEST_CAPTURE, PCAP_UNITS, PCAPNG_MAGIC, CaptureWriter
-from .clock import Pace
-from .files import LARGEST_NAME, MODES, NANOSECONDS, CpuLine, Fault, Setup, read_setup
+from .clock import Pace, first_step
+from .files import MODES, NANOSECONDS, CpuLine, Fault, Setup, read_setup, refuse_name
 from .filters import compiled
 from .notes import rollover_note
 from .outputs import check_folder, check_outputs, write_text
-from .readers import Readings
+from .readers import Explained, explain
 from .refusals import KEY, unknown_mode
 from .ringsizes import Asker, Finder, ringsize_of
 from .runs import Room, add_program, program_of, table
@@ -270,11 +270,19 @@ def row_of(result: Result) -> list[object]:
     ]
 
 
-def phases_words(result: Result) -> str:
-    if result.drops_by_phase:
-        return ", at every whole millisecond of the timer"
+def phases_words(result: Result, first: Fraction | None) -> str:
+    """Which phases of the timer were tried, and which beginnings of the reader, whose first step
+    comes so many milliseconds after the first frame where not all were."""
+    if result.begin is not None:
+        return ", at every whole millisecond of the timer and of the reader's beginning"
     count = len(result.phases)
-    return "" if count == 1 else f" at each of {count} phases of the timer"
+    phases = f" at each of {count} phases of the timer" if count > 1 else ""
+    if result.drops_by_phase:
+        phases = ", at every whole millisecond of the timer"
+    if first is None:
+        return phases
+    step = f"{float(first):g} ms after the first frame"
+    return f"{phases}, for a reader whose first step comes {step}"
 
 
 def lost_words(result: Result) -> str:
@@ -290,12 +298,13 @@ def lost_words(result: Result) -> str:
     return f"with {result.ring.block_nr} blocks {packets} are lost"
 
 
-def verdict_of(results: list[Result], least: Result | None) -> list[str]:
+def verdict_of(results: list[Result], least: Result | None, first: Fraction | None) -> list[str]:
     """The smallest ring that suffices, in words, and the largest of its line that doesn't."""
     if least is None:
         best = min(results, key=lambda result: (result.drops, result.ring.memory))
+        does = "freezes" if best.drops_by_phase else "loses packets"
         return [
-            "every ring that was tried loses packets: no ring suffices",
+            f"every ring that was tried {does}: no ring suffices",
             (
                 f"the smallest loss: {best.drops:,} of {best.worst.kept + best.drops:,}, by"
                 f" {best.ring.words()}"
@@ -309,9 +318,10 @@ def verdict_of(results: list[Result], least: Result | None) -> list[str]:
         else "smallest ring of those tried"
     )
     does = "never freezes" if least.drops_by_phase else "loses nothing"
+    larger = " (any larger one is as good)" if least.drops_by_phase else ""
     said = [
-        f"the {what} that {does}{phases_words(least)}: {least.ring.words()};"
-        f" {kib(least.ring.memory)} in all"
+        f"the {what} that {does}{phases_words(least, first)}: {least.ring.words()};"
+        f" {kib(least.ring.memory)} in all{larger}"
     ]
     return said + ([lost_words(smaller[-1])] if smaller else [])
 
@@ -596,6 +606,8 @@ def check_words(args: argparse.Namespace, setup: Setup, pace: Pace) -> None:
     if args.output and is_made(setup):
         for cpu in setup.cpus:
             check_name(cpu.name)
+    if args.output and args.filter is not None:
+        refuse_name(str(filter_path(args.output)))
     names = picture_names(args)
     if args.pictures:
         check_folder(args.pictures)
@@ -611,13 +623,7 @@ def check_words(args: argparse.Namespace, setup: Setup, pace: Pace) -> None:
 
 def check_name(name: str) -> None:
     """Whether a capture can be named in a setup that ringtap takes."""
-    if not (
-        name.isascii() and name.isprintable() and " " not in name and len(name) <= LARGEST_NAME
-    ):
-        raise Fault(
-            f"-o: the name {name} can't be in a setup: ASCII without blanks, of at most"
-            f" {LARGEST_NAME} bytes"
-        )
+    refuse_name(name)
     with open(name, "rb") as file:
         if file.read(len(GZIP_MAGIC)) == GZIP_MAGIC:
             raise Fault(
@@ -653,8 +659,15 @@ class Answer:
     filtered: int
     judgement: list[str]  # what the program said of the answer and of its neighbour
     keys: list[str]
-    kernel: list[str]  # losses as a kernel rolls over, by the tool's own model
+    key_needs: list[dict[str, object]]
+    kernel: dict[Ring, int]  # losses as a kernel rolls over, by the tool's own model
     finders: list[str]  # ringsize, model; none where the program alone was run
+    pace: Pace
+
+    def first_step(self) -> Fraction | None:
+        """Of the reader, in milliseconds after the first frame."""
+        ring = self.results[0].ring
+        return first_step(self.pace, ring.frame_size if ring.is_v2 else ring.block_size)
 
 
 def print_words(first: str, answer: Answer) -> None:
@@ -662,8 +675,8 @@ def print_words(first: str, answer: Answer) -> None:
     print(f"{first}\n")
     print(table(HEADS, [row_of(result) for result in results]))
     print()
-    said = [*answer.judgement, *answer.keys, *answer.kernel]
-    print("\n".join([*verdict_of(results, answer.least), *said]))
+    said = [*answer.judgement, *answer.keys, *kernel_words(results, answer.kernel)]
+    print("\n".join([*verdict_of(results, answer.least, answer.first_step()), *said]))
     if (
         len({(one.ring.mode, one.ring.members) for one in results}) > 1
         or results[0].ring.members > 1
@@ -692,21 +705,32 @@ def reader_object(pace: Pace) -> dict[str, object]:
     return shown | {"stalls": stalls}
 
 
-def object_of(pace: Pace, answer: Answer) -> dict[str, object]:
+def ring_object(result: Result, kernel: dict[Ring, int]) -> dict[str, object]:
+    """A row of the table, and what else is known of the ring."""
+    drops = list(result.drops_by_phase) or [report.drops for report in result.reports]
+    return dict(zip(HEADS, row_of(result))) | {
+        "drops_by_phase": drops,
+        "key": result.key,
+        "from": result.begin,
+        "by_keys": result.by_keys and asdict(result.by_keys),
+        "kernel_drops": kernel.get(result.ring),
+    }
+
+
+def object_of(answer: Answer) -> dict[str, object]:
     """The same as one object."""
-    least, rings = answer.least, []
-    for result in answer.results:
-        drops = list(result.drops_by_phase) or [report.drops for report in result.reports]
-        more = {"drops_by_phase": drops, "key": result.key, "from": result.begin}
-        rings.append(dict(zip(HEADS, row_of(result))) | more)
+    least, first = answer.least, answer.first_step()
+    rings = [ring_object(result, answer.kernel) for result in answer.results]
     names = [head.replace(" ", "_") for head in MEMBER_HEADS]
     made: dict[str, object] = {
-        "reader": reader_object(pace),
+        "reader": reader_object(answer.pace) | {"first_step": first and float(first)},
         "about": about_object(answer.fed.about, answer.filtered),
         "rings": rings,
         "least": dict(zip(HEADS, row_of(least))) if least else None,
         "is_every_millisecond": bool(least and least.drops_by_phase),
+        "is_every_beginning": bool(least and least.begin is not None),
         "found_by": answer.finders,
+        "keys": answer.key_needs,
         "members": [dict(zip(names, row)) for row in answer.rows],
         "evenness": [
             {"mode": row[0], "members": row[1], "packets": float(row[2]), "bytes": float(row[3])}
@@ -779,15 +803,11 @@ def found(
     fed = feeds(room.streams(), pace)
     refuse_parts(fed.about)
     timed = list(room.captures)  # before the model puts numbers into their times
-    is_reserved = args.libpcap or any(RESERVED_MARK in line for line in setup.lines)
+    is_reserved = reserves(args, setup)
     model = Model(room, fed, pace, RESERVED * is_reserved)
     trials = Trials(room, fed, pace, args.phases or FEW_PHASES, args.jobs)
-    if is_reserved and not use_longer(trials):
-        raise Fault(
-            f"{setup.path}: with libpcap's bytes its captures are more than the 32 MiB that ringtap"
-            " reads"
-        )
-    trials.reserved = RESERVED * is_reserved
+    if is_reserved:
+        make_longer(trials)
     trials.reads = model.reads if pace.poll is not None else None
     ringsize = ringsize_of(room.program)
     finder = Finder(Asker(ringsize, room, timed, trials.has_flag) if ringsize else None)
@@ -801,63 +821,65 @@ def found(
         results, least, said = few_phases(trials, grid, is_open, args.keys * is_sure, is_sure)
         filtered = results[0].worst.filtered
         refuse_filtered(fed.about, results[0].worst.arrivals, filtered)
-    kernel, rows, asked = kernel_words(model, results), member_rows(trials, results), []
+    kernel, rows, asked = kernel_drops(model, results), member_rows(trials, results), []
     if least and not args.replay2:
-        asked = advice_of(finder, trials, model, least.ring, is_reserved)
-    finders = sorted(search.finders)
+        asked = advice_of(finder, trials, model, least.ring, is_reserved, args.keys)
     return Answer(
-        results, least, rows, asked, fed, filtered, said, search.key_words, kernel, finders
+        results,
+        least,
+        rows,
+        asked,
+        fed,
+        filtered,
+        said,
+        search.key_words,
+        search.key_needs,
+        kernel,
+        sorted(search.finders),
+        pace,
     )
 
 
-def explained(
-    room: Room, args: argparse.Namespace, pace: Pace, setup: Setup, grid: list[Ring]
-) -> int:
-    """Prints the readers that explain a counter; the program runs an example of each."""
-    ring = replace(grid[0], block_nr=setup.number("block_nr"))
-    if rolls_over(ring):
-        raise Fault("--lost: not for a group that rolls over, whose members don't stand alone")
-    if not pace.has_reader:
-        pace = replace(pace, pause=PAUSE)
-    fed = feeds(room.streams(), pace)
-    refuse_parts(fed.about)
-    model = Model(room, fed, pace)
-    readings = Readings(model, ring, args.lost, args.phases or FEW_PHASES)
-    found, said = readings.all(), []
-    for one in found:
-        told = one.words(ring)
-        if one.example:
-            trials = Trials(room, fed, one.example[0], 1, 1)
-            trials.reads = model.reads if one.example[0].poll is not None else None
-            drops = trials.run(ring, one.example[1]).drops
-            told += f"; `ringtap replay` drops {drops:,} by one of these, at phase {one.example[1]}"
-            if drops != args.lost:
-                raise Fault(f"{told}, and the tool's own model {args.lost:,}")
-        said.append(told)
+def reserves(args: argparse.Namespace, setup: Setup) -> bool:
+    """Whether the ring is one of libpcap's, by the option or by the setup."""
+    return args.libpcap or any(RESERVED_MARK in line for line in setup.lines)
+
+
+def print_explained(args: argparse.Namespace, ring: Ring, found: Explained) -> int:
+    """The readers that explain a counter."""
     if args.json:
-        print_json(
-            {
-                "lost": args.lost,
-                "ring": ring.block_nr,
-                "phases": len(readings.few),
-                "readings": [one.object() for one in found],
-                "blocks": max((one.blocks for one in found), default=None),
-            }
-        )
+        print_json(found.object() | {"lost": args.lost, "ring": ring.block_nr})
     else:
+        said = [one.words(ring) for one in found.readings]
         print(
             f"{args.lost:,} packets lost by {ring.words()} are explained, by the tool's own"
             " model, by"
         )
         print("\n".join(said or ["no phase, stop or speed of a reader that was tried"]))
-        if found:
+        if said:
             print(
-                "the largest ring that any of these needs:"
-                f" {max(one.blocks for one in found)} blocks of {ring.block_size} bytes"
+                f"the largest ring that any of these needs: {found.blocks} blocks of"
+                f" {ring.block_size} bytes"
             )
-        print(readings.tried())
-        print(f"\n{about_words(fed.about, 0)}")
-    return 0 if found else NONE_SUFFICES
+        print(found.tried)
+        print(f"\n{about_words(found.about, found.filtered)}")
+    return 0 if found.readings else NONE_SUFFICES
+
+
+def lost_explained(
+    room: Room, args: argparse.Namespace, pace: Pace, setup: Setup, grid: list[Ring]
+) -> int:
+    """Which readers lose so many packets over the setup's ring."""
+    ring = replace(grid[0], block_nr=setup.number("block_nr"))
+    if rolls_over(ring):
+        raise Fault("--lost: not for a group that rolls over, whose members don't stand alone")
+    if args.loop > 1:
+        repeat(room, args.loop)
+    if not pace.has_reader:
+        pace = replace(pace, pause=PAUSE)
+    phases = args.phases or FEW_PHASES
+    found = explain(room, pace, ring, args.lost, phases, reserves(args, setup))
+    return print_explained(args, ring, found)
 
 
 def main(words: list[str]) -> int:
@@ -875,14 +897,14 @@ def main(words: list[str]) -> int:
                 take_filter(setup, instructions, folder)
             with Room(setup, program) as room:
                 if args.lost is not None:
-                    return explained(room, args, pace, setup, grid)
+                    return lost_explained(room, args, pace, setup, grid)
                 answer = found(room, args, pace, setup, grid)
     except NoAnswer as fault:
         print(f"{Path(sys.argv[0]).name}: {fault}", file=sys.stderr)
         return NO_ANSWER
     least = answer.least
     if args.json:
-        print_json(object_of(pace, answer))
+        print_json(object_of(answer))
     else:
         print_words(opening(setup, args, pace, is_default), answer)
     if args.pictures:

@@ -17,7 +17,7 @@ from pathlib import Path
 
 from .clock import MILLISECOND, Pace, steps_of
 from .files import Fault
-from .runs import Room, run_program, status_words
+from .runs import Room, run_program, say_how_long, status_words
 from .schedule import DEFAULT_TIMEOUT
 from .search import Least, Model
 from .trials import Ring, Trials, changes_of
@@ -25,7 +25,6 @@ from .trials import Ring, Trials, changes_of
 GROUP_LINE = re.compile(r"group (?:blocks|slots) (\d+) phase (\d+) from (\d+)(?: beyond)?")
 NO_ANSWER = re.compile(r"(?:setup|reader): .* has no answer yet")
 ASKED = "`ringsize` found it"  # so begin the words where it was asked
-LONG = 5  # seconds from which on it is said how long a search takes
 
 
 class NotAsked(Exception):
@@ -115,9 +114,7 @@ class Asker:
             moments.append(time.monotonic())
         each = max(0.0, moments[2] - 2 * moments[1] + moments[0]) / phases
         seconds = moments[1] - moments[0] + each * phases * begins
-        if seconds > LONG:
-            said = f"{phases} phases and {begins} beginnings: about {seconds:,.0f} s"
-            print(f"ringsize: {said}", file=sys.stderr)
+        say_how_long(f"ringsize: {phases} phases and {begins} beginnings", seconds)
         return seconds
 
     def answer(self, lines: list[str]) -> Sized:

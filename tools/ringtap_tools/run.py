@@ -17,7 +17,16 @@ from dataclasses import asdict, dataclass
 from pathlib import Path
 
 from .documents import plain, table_with
-from .files import LARGEST_NAME, LARGEST_TEXT, Fault, Setup, output_names, read_setup, words_of
+from .files import (
+    LARGEST_TEXT,
+    Fault,
+    Setup,
+    is_name,
+    output_names,
+    read_setup,
+    refuse_name,
+    words_of,
+)
 from .kinds import explain_end, why_of
 from .notes import rollover_note
 from .outputs import is_device, is_same, named_by, write_bytes, write_text
@@ -80,13 +89,6 @@ def new_folder(asked: Path | None) -> Path:
     return asked
 
 
-def is_name(text: str) -> bool:
-    """Whether a setup can have this name."""
-    return (
-        text.isascii() and text.isprintable() and " " not in text and 1 <= len(text) <= LARGEST_NAME
-    )
-
-
 def text_into(setup: Setup, folder: Path) -> str | None:
     """The setup with outputs in a folder, each line with its number. None where the line `out` is
     one that the program refuses."""
@@ -95,11 +97,7 @@ def text_into(setup: Setup, folder: Path) -> str | None:
     if len(places) > 1 or len(values) != 1 or not is_name(values[0]):
         return None
     prefix = str(folder / Path(values[0]).name)
-    if not is_name(prefix):
-        raise Fault(
-            f"{folder}: can't stand in a setup: a name there is ASCII without blanks, of at most"
-            f" {LARGEST_NAME} bytes"
-        )
+    refuse_name(prefix)
     lines = list(setup.lines)
     if places:
         lines[places[0]] = f"out {prefix}"

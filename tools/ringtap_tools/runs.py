@@ -27,6 +27,7 @@ INSTALLED = HERE.parent.parent / "bin" / "ringtap"
 # times these bytes; for the heaps of threads, frames of so many bytes.
 LEAST_CAPTURES, MOST_RING, LARGE_FRAME = 1_048_576, 2, 512
 FIRST_FRAMES = 100  # so many of each capture are looked at
+LONG = 5  # seconds from which on it is said beforehand how long something takes
 
 STATUSES = {
     0: "done",
@@ -311,6 +312,12 @@ def kill_runs() -> None:
 
 RUNNING: set[subprocess.Popen] = set()
 AT_SIGNAL.append(kill_runs)
+
+
+def say_how_long(what: str, seconds: float) -> None:
+    """Says on standard error how long something takes, where that is long."""
+    if seconds > LONG:
+        print(f"{what}: about {seconds:,.0f} s", file=sys.stderr)
 
 
 class Progress:

@@ -6,7 +6,6 @@ rings lose at all of them. `ring_size.py` lets `ringtap replay` judge what is fo
 from __future__ import annotations
 
 import hashlib
-import sys
 import time
 from copy import copy
 from dataclasses import dataclass, field, replace
@@ -28,13 +27,12 @@ from .model import (
     room_of,
 )
 from .rollover import Arrival, BlockRing, SlotRing, rolled
-from .runs import Progress, Room
+from .runs import Progress, Room, say_how_long
 from .schedule import DEFAULT_TIMEOUT, Fed
-from .trials import ROLLOVER, Ring
+from .trials import ROLLOVER, KeyRange, Ring, span_words
 
 OWN_KEY = None  # the key that the setup has
 FEW_PHASES = 64  # at which further keys are looked at before the worst of them is at all
-LONG = 5  # seconds from which on it is said how long a search takes
 
 
 def key_of(number: int) -> str:
@@ -198,8 +196,7 @@ class Model:
         begin = time.monotonic()
         self.least_at(ring, 0, key)
         needed = (time.monotonic() - begin) * count
-        if needed > LONG:
-            print(f"{count} {what}: about {needed:,.0f} s", file=sys.stderr)
+        say_how_long(f"{count} {what}", needed)
         return Progress(count, what, is_shown=needed > 1)
 
 
@@ -220,13 +217,19 @@ class Keys:
         return max((self.own, *self.others), key=lambda least: least.blocks)
 
     def words(self) -> str:
-        few = min(least.blocks for least in self.others)
-        most = max(least.blocks for least in self.others)
-        span = f"{few} to {most}" if few != most else f"{most}"
         return (
             f"mode hash: the setup's key needs {self.own.blocks} blocks, {len(self.others)} further"
-            f" keys {span}; a kernel's key is a secret of its boot, so the worst counts"
+            f" keys {span_words(self.span())}; a kernel's key is a secret of its boot, so the worst"
+            " counts"
         )
+
+    def span(self) -> tuple[int, int]:
+        """The fewest and the most blocks that one of the others needs."""
+        needs = [least.blocks for least in self.others]
+        return min(needs), max(needs)
+
+    def object(self) -> dict[str, object]:
+        return {"own": self.own.blocks, "others": list(self.span()), "count": len(self.others)}
 
 
 def keys_of(model: Model, ring: Ring, count: int) -> Keys:
@@ -238,6 +241,23 @@ def keys_of(model: Model, ring: Ring, count: int) -> Keys:
         worst = max(range(count), key=lambda at: others[at].blocks)
         others[worst] = model.worst_least(ring, others[worst].key)
     return Keys(own, tuple(others))
+
+
+def key_ranges(model: Model, rings: list[Ring], count: int) -> list[KeyRange]:
+    """What rings of one line lose at some phases, under the setup's key and so many others."""
+    phases = few_of(model.phases(rings[0]), FEW_PHASES)
+    progress = Progress(1 + count, "keys")
+    spans: list[list[tuple[int, int]]] = []  # of each key, and of each ring
+    for key in (OWN_KEY, *map(key_of, range(1, count + 1))):
+        drops = [[model.drops_at(ring, phase, key) for phase in phases] for ring in rings]
+        spans.append([(min(one), max(one)) for one in drops])
+        progress.step()
+    return [
+        KeyRange(
+            mine[0], (min(few for few, _ in mine), max(most for _, most in mine)), len(phases)
+        )
+        for mine in zip(*spans)
+    ]
 
 
 def rung(ring: Ring, least: int) -> list[int]:

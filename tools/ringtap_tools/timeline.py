@@ -629,11 +629,11 @@ def main(words: list[str]) -> int:
         int(args.start * NANOSECONDS),
         None if args.stop is None else int(args.stop * NANOSECONDS),
     )
+    for note in rollover_note(setup):
+        print(note, file=sys.stderr)
     if args.json:
         print_json(object_of(run))
     else:
-        for note in rollover_note(setup):
-            print(note, file=sys.stderr)
         print_text(run)
     if args.picture:
         save_picture(args.picture, picture_of(run, args.schedule))

@@ -4,6 +4,7 @@ from __future__ import annotations
 
 import os
 import threading
+import time
 from concurrent.futures import ThreadPoolExecutor
 from dataclasses import dataclass, replace
 from fractions import Fraction
@@ -14,7 +15,7 @@ from .captures import CaptureStream, CaptureWriter
 from .clock import Pace, Shape
 from .files import Fault
 from .outputs import write_text
-from .runs import MemberReport, Progress, Report, Room
+from .runs import MemberReport, Progress, Report, Room, say_how_long
 from .schedule import DEFAULT_TIMEOUT, Fed, Reads, schedule_of
 
 LARGEST_RING, MOST_BLOCKS, MOST_SLOTS = 67_108_864, 256, 65_536
@@ -77,6 +78,28 @@ class Ring:
 
 
 @dataclass(frozen=True)
+class KeyRange:
+    """The fewest and the most packets that a ring loses at some phases of the timer: under the
+    setup's key, and under that and further ones."""
+
+    own: tuple[int, int]
+    all: tuple[int, int]
+    phases: int  # how many
+
+    def words(self, ring: Ring, count: int) -> str:
+        return (
+            f"{ring.block_nr} blocks lose {span_words(self.own)} packets under the setup's key, and"
+            f" {span_words(self.all)} under it and {count} further ones, at {self.phases} phases of"
+            " the timer"
+        )
+
+
+def span_words(span: tuple[int, int]) -> str:
+    fewest, most = span
+    return f"{most:,}" if fewest == most else f"{fewest:,} to {most:,}"
+
+
+@dataclass(frozen=True)
 class Result:
     """A ring, and what the program printed at each phase."""
 
@@ -87,6 +110,7 @@ class Result:
     key: str | None = None  # under which the worst run was, where it isn't the setup's
     begin: int | None = None  # of the reader, milliseconds, where it isn't that of the pace
     never_freezes: bool | None = None  # at any phase, where that was looked at
+    by_keys: KeyRange | None = None  # of mode hash
 
     @property
     def suffices(self) -> bool:
@@ -195,12 +219,15 @@ class Trials:
 
     def run_all(self, rings: list[Ring]) -> list[Result]:
         wanted = [(ring, phase) for ring in rings for phase in self.phases_of(ring)]
-        progress, reports = Progress(len(wanted), "runs"), []
+        progress, reports, begin = Progress(len(wanted), "runs"), [], time.monotonic()
         with ThreadPoolExecutor(self.jobs) as pool:
             waiting = [pool.submit(self.run, *one) for one in wanted]
             try:
                 for one in waiting:
                     reports.append(one.result())
+                    if len(reports) == 1:
+                        each = (time.monotonic() - begin) / self.jobs
+                        say_how_long(f"{len(wanted)} runs", each * len(wanted))
                     progress.step()
             except BaseException:
                 pool.shutdown(cancel_futures=True)
