@@ -186,7 +186,7 @@ def test_little_is_on_the_disk(here: Here, monkeypatch: pytest.MonkeyPatch) -> N
 
     monkeypatch.setattr(PieceRoom, "replay", watched)
     monkeypatch.chdir(here.path)
-    here.capture("small.pcap", [(20 * number, frame(number, 14)) for number in range(90_000)])
+    here.capture("small.pcap", [(20 * number, frame(number)[:14]) for number in range(90_000)])
     here.text("setup.txt", BLOCK + "cpu small.pcap\n")
     run = in_pieces(here, ["--piece", str(1 << 20), "--blocks", "900"])
     assert sum(count.totals()[0] for count in run.counts) == 90_000

@@ -103,6 +103,18 @@ def test_keys_of_suricata(here: Here) -> None:
     assert found["suricata"]["ring-size"] == str(4 * 20 - 1)
 
 
+def test_libpcaps_bytes(here: Here) -> None:
+    """112 frames at once fill 4 blocks of 28; with 4 bytes more, which the option or a setup of
+    ring_of.py asks for, a packet takes 152 and a block has 26, so 8 are in a fifth one."""
+    here.capture("once.pcap", [(number, frame(number)) for number in range(112)])
+    plain = here.text("plain.txt", BLOCK + "cpu once.pcap\n")
+    note = "# libpcap reserves 4 bytes more of each packet (PACKET_RESERVE 4): its data begins at"
+    noted = here.text("noted.txt", f"{note}\n{BLOCK}cpu once.pcap\n")
+    for words, blocks in (([plain], 4), ([plain, "--libpcap"], 5), ([noted], 5)):
+        found = json.loads(here.with_program("ring_size.py", *words, "--json").printed)
+        assert found["least"]["block_nr"] == blocks, words
+
+
 def test_poll(here: Here) -> None:
     """A reader that wakes at once has each block when it is full, so two are enough. One that wakes
     40 ms later has the first at 28 + 40, when two more are full; the run is judged by the
