@@ -21,6 +21,22 @@ def test_tcpdump(here: Here) -> None:
     answer = here.tool("beside.py", *words, "--", *command)
     assert (answer.said, answer.status) == ("", 0)
     found = json.loads(answer.printed)
+    assert not found["is_v2"]
     assert (found["block_nr"], found["block_size"], found["tov"]) == (2, 262_144, 1000)
     assert 50 < found["fewest"] <= found["most"] < 100
     assert found["is_within"] or found["is_late"]
+
+
+@pytest.mark.needs("network namespaces", "ip", "ss", "tcpreplay", "tcpdump")
+def test_slots(here: Here) -> None:
+    """`tcpdump --immediate-mode` has slots of 65,632 bytes for its snap length here, 8 of them in
+    512 KiB. Of 300 frames, one each 10 ms, a stop of 1.5 s loses 150 less 8. On a machine with
+    much other work stops are longer and frames come late, so tcpdump's own number is another."""
+    here.capture("sent.pcap", [(10_000 * number, frame(number)) for number in range(300)])
+    command = ["tcpdump", "--immediate-mode", "-i", "{}", "-B", "512", "-Z", "root", "-w"]
+    words = ["sent.pcap", "--stop", "500:1500", "--json", "--program", here.program]
+    answer = here.tool("beside.py", *words, "--", *command, "/dev/null")
+    found = json.loads(answer.printed)
+    assert (found["is_v2"], found["is_within"], answer.status) == (True, None, 0)
+    assert found["fewest"] == found["most"] and abs(found["most"] - 142) <= 1
+    assert 0 < found["dropped"] < 300 - 8

@@ -26,7 +26,7 @@ from dataclasses import dataclass
 from pathlib import Path
 
 from .files import Fault
-from .ring_of import SS, entries, groups_of, setup_of, socket_of
+from .ring_of import SS, V2, entries, groups_of, setup_of, socket_of
 from .runs import add_program, program_of
 from .schedule import positive, stall
 from .words import ToolParser, add_json, print_json
@@ -44,14 +44,26 @@ COUNTERS = (  # what tcpdump, dumpcap and netsniff-ng print when they end
 )
 
 
+@dataclass(frozen=True)
+class Found:
+    """The ring that ss shows of a program: its setup and its filter."""
+
+    setup: str
+    instructions: tuple[str, ...]
+    is_v2: bool
+
+    def number(self, word: str) -> int:
+        lines = (line.split() for line in self.setup.splitlines())
+        return int(next(line[1] for line in lines if line[0] == word))
+
+
 @dataclass
 class Seen:
     """What the program said, and how its ring was."""
 
     drops: int
     said: str
-    setup: str
-    instructions: tuple[str, ...]
+    ring: Found
     seconds: float  # from the first frame to the last
 
 
@@ -104,17 +116,16 @@ class Namespace:
         return call(*self.words(*words))
 
 
-def ring_in(
-    space: Namespace, program: subprocess.Popen, capture: Path
-) -> tuple[str, tuple[str, ...]]:
-    """The setup of the ring that the program has made, once it is there."""
+def ring_in(space: Namespace, program: subprocess.Popen) -> Found:
+    """The ring that the program has made, once it is there."""
     until = time.monotonic() + PATIENCE
     while time.monotonic() < until and program.poll() is None:
         found = [one for one in map(socket_of, entries(space.run(*SS))) if one]
         if found:
             group = groups_of(found)[0]
             name = "filter.ddd" if group[0].filter else None
-            return setup_of(group, ["capture.pcap"], name, False), group[0].filter
+            text = setup_of(group, ["capture.pcap"], name, False)
+            return Found(text, group[0].filter, group[0].version == V2)
         time.sleep(0.05)
     raise Fault(
         "the program ended before it had a ring"
@@ -130,7 +141,7 @@ def replayed(space: Namespace, args: argparse.Namespace, words: list[str], log: 
             space.words(*words), stdout=output, stderr=output, stdin=subprocess.DEVNULL
         )
         try:
-            setup, instructions = ring_in(space, program, args.capture)
+            ring = ring_in(space, program)
             sender = subprocess.Popen(
                 space.words("tcpreplay", "-q", "-i", SENDER, *rate_words(args), str(args.capture)),
                 stdout=subprocess.DEVNULL,
@@ -154,7 +165,7 @@ def replayed(space: Namespace, args: argparse.Namespace, words: list[str], log: 
                 program.kill()
                 program.wait()
     text = log.read_text(errors="replace")
-    return Seen(counter_in(text, args.counter), text, setup, instructions, took)
+    return Seen(counter_in(text, args.counter), text, ring, took)
 
 
 def first_frame(process: int, sender: subprocess.Popen) -> float:
@@ -189,18 +200,17 @@ def counter_in(text: str, pattern: str | None) -> int:
     )
 
 
-def predicted(args: argparse.Namespace, seen: Seen, folder: Path, program: Path) -> dict:
+def predicted(args: argparse.Namespace, found: Found, folder: Path, program: Path) -> dict:
     """The range of losses of the ring, by ring_size.py."""
     (folder / "capture.pcap").symlink_to(args.capture.resolve())
-    (folder / "setup.txt").write_text(seen.setup)
-    if seen.instructions:
+    (folder / "setup.txt").write_text(found.setup)
+    if found.instructions:
         (folder / "filter.ddd").write_text(
-            "\n".join([str(len(seen.instructions)), *seen.instructions]) + "\n"
+            "\n".join([str(len(found.instructions)), *found.instructions]) + "\n"
         )
-    blocks = next(
-        line.split()[1] for line in seen.setup.splitlines() if line.startswith("block_nr ")
-    )
-    words = ["setup.txt", "--block-nr", blocks, "--poll", "0", "--json", "--program", str(program)]
+    blocks = found.number("block_nr")
+    words = ["setup.txt", "--block-nr", str(blocks), "--poll", "0", "--json"]
+    words += ["--program", str(program)] + ["--replay2"] * found.is_v2
     for start, length in args.stop:
         words += ["--stall", f"{start}:{length}"]
     for name in ("pps", "mbps", "speed"):
@@ -211,11 +221,26 @@ def predicted(args: argparse.Namespace, seen: Seen, folder: Path, program: Path)
     if done.returncode not in (0, 3):
         raise Fault(f"ring_size.py: {done.stderr.strip()}")
     print(done.stderr, end="", file=sys.stderr)
-    found = json.loads(done.stdout)
-    ring = next(ring for ring in found["rings"] if ring["block_nr"] == int(blocks))
+    made = json.loads(done.stdout)
+    ring = next(ring for ring in made["rings"] if ring["block_nr"] == blocks)
     if ring["by_keys"]:  # a kernel's key is a secret of its boot
         ring["fewest"], ring["drops"] = ring["by_keys"]["all"]
-    return ring | {"about": found["about"]}
+    return ring | {"about": made["about"]}
+
+
+def ring_words(found: Found) -> str:
+    if found.is_v2:
+        return f"{found.number('frame_nr')} slots of {found.number('frame_size')} bytes"
+    blocks = f"{found.number('block_nr')} blocks of {found.number('block_size')} bytes"
+    return f"{blocks}, time-out {found.number('tov')} ms"
+
+
+def range_words(ring: dict, drops: int, is_within: bool | None) -> str:
+    if is_within is None:
+        return f"{ring['drops']:,}, since slots have no timer; {drops - ring['drops']:+,} differ"
+    where = "within" if is_within else "not within"
+    span = f"{ring['fewest']:,} to {ring['drops']:,}, over all phases of the timer"
+    return f"{span}; its number is {where}"
 
 
 def seconds_asked(args: argparse.Namespace, about: dict) -> float:
@@ -279,10 +304,11 @@ def main(words: list[str]) -> int:
     with tempfile.TemporaryDirectory(prefix="ringtap-") as folder:
         with Namespace() as space:
             seen = replayed(space, args, command, Path(folder) / "log")
-        ring = predicted(args, seen, Path(folder), program)
+        ring = predicted(args, seen.ring, Path(folder), program)
     asked = seconds_asked(args, ring.pop("about"))
     is_late = seen.seconds > LATE * asked + 0.2
-    is_within = ring["fewest"] <= seen.drops <= ring["drops"]
+    # slots have no timer, so there is one number, for stops of just so many milliseconds
+    is_within = None if seen.ring.is_v2 else ring["fewest"] <= seen.drops <= ring["drops"]
     if args.json:
         print_json(
             {
@@ -296,22 +322,16 @@ def main(words: list[str]) -> int:
                 "block_nr": ring["block_nr"],
                 "block_size": ring["block_size"],
                 "tov": ring["tov"],
+                "is_v2": seen.ring.is_v2,
             }
         )
     else:
-        print(
-            f"its ring: {ring['block_nr']} blocks of {ring['block_size']} bytes, time-out"
-            f" {ring['tov']} ms, as ss shows it"
-        )
+        print(f"its ring: {ring_words(seen.ring)}, as ss shows it")
         print(f"it says: {seen.drops:,} dropped")
         if is_late:
             print(
                 f"frames took {seen.seconds:.1f} s in place of {asked:.1f} s: this machine is too"
                 " busy for the rate, and the numbers can't be compared"
             )
-        where = "within" if is_within else "not within"
-        print(
-            f"predicted: {ring['fewest']:,} to {ring['drops']:,}, over all phases of the timer; its"
-            f" number is {where}"
-        )
+        print(f"predicted: {range_words(ring, seen.drops, is_within)}")
     return 0
