@@ -246,11 +246,13 @@ def keys_of(model: Model, ring: Ring, count: int) -> Keys:
 def key_ranges(model: Model, rings: list[Ring], count: int) -> list[KeyRange]:
     """What rings of one line lose at some phases, under the setup's key and so many others."""
     phases = few_of(model.phases(rings[0]), FEW_PHASES)
-    progress = Progress(1 + count, "keys")
+    progress, begin = Progress(1 + count, "keys"), time.monotonic()
     spans: list[list[tuple[int, int]]] = []  # of each key, and of each ring
     for key in (OWN_KEY, *map(key_of, range(1, count + 1))):
         drops = [[model.drops_at(ring, phase, key) for phase in phases] for ring in rings]
         spans.append([(min(one), max(one)) for one in drops])
+        if len(spans) == 1:
+            say_how_long(f"{1 + count} keys", (time.monotonic() - begin) * (1 + count))
         progress.step()
     return [
         KeyRange(
