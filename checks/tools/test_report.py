@@ -5,7 +5,8 @@ import json
 import re
 from html.parser import HTMLParser
 
-from tools.here import BLOCK, Here, frame
+from second.hash_values import KEY
+from tools.here import BLOCK, Here, datagram_between, frame
 
 
 class Page(HTMLParser):
@@ -65,6 +66,23 @@ def test_page(here: Here) -> None:
     numbers = json.loads(kept[1].replace("<\\/", "</"))
     assert numbers["sizes"]["rings"] == found["rings"]
     assert "<b>5 blocks of 4,096 bytes</b>" in text
+
+
+def test_keys(here: Here) -> None:
+    """Four flows of 28 packets, two members of two blocks. Under the worst key one member has all
+    four and drops two of them, and so it does in the ring that is shown."""
+    flows = [datagram_between((1, 1000 + number), (2, 53), 18) for number in range(4)]
+    here.capture("flows.pcap", [(at, flows[at // 28]) for at in range(112)])
+    here.text("flows.txt", BLOCK + f"cpu flows.pcap\nmembers 2\nmode hash\nkey {KEY}\n")
+    answer = here.with_program("report.py", "flows.txt", "-o", "page.html")
+    assert (answer.said, answer.status) == ("", 0)
+    page = Page()
+    page.feed((here.path / "page.html").read_text())
+    sizes, members, lost = page.tables[1:]
+    assert sizes[0][-2:] == ["fewest, any key", "most, any key"]
+    assert (sizes[1][0], sizes[1][3], sizes[1][-1]) == ("2", "56", "56")
+    assert sorted(row[2] for row in members[1:]) == ["0", "56"]
+    assert [row[2] for row in lost[1:]] == ["28", "28"]
 
 
 def test_no_answer(here: Here) -> None:

@@ -149,10 +149,9 @@ def gathered(work: Work, setup: Setup) -> dict:
         found["rings"] = sorted(found["rings"] + own["rings"], key=lambda ring: ring["block_nr"])
     ring = chosen_ring(found, setup)
     count = ring["block_size"] // max(1, setup.number("frame_size")) * ring["block_nr"]
-    room.write_setup(
-        "shown.txt",
-        {"block_nr": str(ring["block_nr"]), "frame_nr": str(count), "out": "shown", "dump": None},
-    )
+    changes = {"block_nr": str(ring["block_nr"]), "frame_nr": str(count)}
+    changes |= {"key": ring["key"]} if ring["key"] else {}  # under which it loses most
+    room.write_setup("shown.txt", changes | {"out": "shown", "dump": None})
     phase = ["--phase", str(ring["phase"])]
     if ring["from"] is not None:
         phase += ["--from", str(ring["from"])]
@@ -218,6 +217,20 @@ MORE_COLUMNS = {
     "most, any key": ("by_keys", "all", 1),
     "most, as a kernel rolls over": ("kernel_drops",),
 }
+
+
+def losses_words(rings: list[dict]) -> str:
+    """What the table of losses has."""
+    said = (
+        "Packets dropped at the best and at the worst phase of the timer, that phase in"
+        " milliseconds, and how often the ring freezes there."
+    )
+    if any(ring["by_keys"] for ring in rings):
+        said += (
+            " These are under the key, of those tried, that needs the largest ring; beside them"
+            " what is dropped under any of them, at some phases."
+        )
+    return said
 
 
 def sizes_table(rings: list[dict]) -> str:
@@ -286,16 +299,13 @@ def page_of(
         "<h2>The captures</h2>",
         rows_of(["capture", "frames", "seconds", "cut frames", "drops it tells of"], captures),
         "<h2>What smaller rings lose</h2>",
-        (
-            "<p>Packets dropped at the best and at the worst phase of the timer, that phase in"
-            " milliseconds, and how often the ring freezes there.</p>"
-        ),
+        f"<p>{losses_words(found['rings'])}</p>",
         sizes_table(found["rings"]),
         f'<div class="picture">{pictures["drops"]}</div>',
         f"<h2>A ring of {shown['block_nr']} blocks over time</h2>",
         (
-            f"<p>At phase {shown['phase']}: the blocks that each reader has. With all of them the"
-            " ring is frozen.</p>"
+            f"<p>At phase {shown['phase']}{' and under that key' if shown['key'] else ''}: the"
+            " blocks that each reader has. With all of them the ring is frozen.</p>"
         ),
         f'<div class="picture">{pictures["fill"]}</div>',
         rows_of(["member", "kept", "dropped", "freezes", "most blocks", "of"], members),
