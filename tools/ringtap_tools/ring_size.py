@@ -22,7 +22,6 @@ import io
 import itertools
 import sys
 import tempfile
-from collections import Counter
 from dataclasses import asdict, dataclass, replace
 from fractions import Fraction
 from pathlib import Path
@@ -31,7 +30,7 @@ from typing import Callable
 from .about import NO_ANSWER, NoAnswer, about_object, about_words, refuse_filtered, refuse_parts
 from .advice import Advice, advice_of, make_longer
 from .answers import Search, every_phase, few_phases, kernel_drops, kernel_words, rolls_over
-from .captures import GZIP_MAGIC, LARGEST_CAPTURE, PCAP_UNITS, PCAPNG_MAGIC, CaptureWriter
+from .captures import GZIP_MAGIC, PCAP_UNITS, PCAPNG_MAGIC
 from .clock import Pace, first_step
 from .files import MODES, NANOSECONDS, CpuLine, Fault, Setup, read_setup, refuse_name
 from .filters import compiled
@@ -43,16 +42,8 @@ from .ringsizes import Asker, Finder, ringsize_of
 from .runs import Room, add_program, program_of, table
 from .schedule import Fed, add_pace, feeds, pace_of
 from .search import FEW_PHASES, Model
-from .svg_plot import (
-    Layer,
-    Panel,
-    Series,
-    bars_chart,
-    check_picture,
-    kib,
-    points_chart,
-    save_picture,
-)
+from .size_pictures import drops_picture, packets_picture
+from .svg_plot import check_picture, kib, save_picture
 from .trials import (
     LEAST_BLOCKS,
     MOST_BLOCKS,
@@ -67,6 +58,7 @@ from .trials import (
     least_of,
     lines_of,
     members_of,
+    repeat,
 )
 from .words import ToolParser, add_json, print_json
 
@@ -77,7 +69,6 @@ MOST_TIMEOUT = 60_000  # milliseconds
 NONE_SUFFICES = 3  # the status
 KEYS, MOST_KEYS, MOST_LOOPS = 16, 256, 10_000
 RESERVED_MARK = "PACKET_RESERVE 4"  # in a setup that ring_of.py wrote of a program of libpcap
-KEPT_COLOR, DROPPED_COLOR = "#0072b2", "#d55e00"
 # What is taken for captures alone: the ring that tcpdump asks for, and a reader that comes ten
 # times a second.
 TCPDUMP_BLOCK, TCPDUMP_TIMEOUT = 262_144, 1000
@@ -352,85 +343,6 @@ def evenness_rows(rows: list[list[object]]) -> list[list[object]]:
         )
         found.append([mode, members, f"{packets:.2f}", f"{kept:.2f}"])
     return found
-
-
-# of a line's name, before its block size
-PARTS = {"mode": "{}", "members": "{} members", "timeout": "tov {}"}
-
-
-def part_words(ring: Ring, names: list[str]) -> list[str]:
-    words = [PARTS[name].format(getattr(ring, name)) for name in names]
-    return ["1 member" if word == "1 members" else word for word in words]
-
-
-def panel_parts(rings: list[Ring]) -> list[str]:
-    """What tells the panels of a picture apart: as little as leaves none more lines than there
-    are colors, where that can be had."""
-    names = list(PARTS)
-    for count in range(len(names)):
-        sizes = Counter(tuple(part_words(ring, names[:count])) for ring in rings)
-        if max(sizes.values()) <= Panel.MOST_SERIES:
-            return names[:count]
-    return names
-
-
-def series_name(ring: Ring, rings: list[Ring], named: list[str]) -> str:
-    """What tells a line from the others of its panel; the number of blocks goes along the line."""
-    differing = [
-        name
-        for name in PARTS
-        if name not in named and len({getattr(other, name) for other in rings}) > 1
-    ]
-    parts = part_words(ring, differing)
-    if len({other.block_size for other in rings}) > 1 or not parts:
-        parts.append(f"{kib(ring.block_size)} blocks")
-    return ", ".join(parts)
-
-
-def drops_picture(results: list[Result], least: Result | None, title: str) -> str:
-    """Drops at the worst phase against memory: several panels, one for each mode, where one
-    would have too many lines."""
-    lines = lines_of(results)
-    rings = [line[0].ring for line in lines]
-    named = panel_parts(rings)
-    panels: list[Panel] = []
-    for line in lines:
-        name = ", ".join(part_words(line[0].ring, named))
-        if not panels or panels[-1].name != name or len(panels[-1].series) == Panel.MOST_SERIES:
-            panels.append(Panel(name))
-        points = []
-        for result in line:
-            told = (
-                f"{result.ring.words()}: {result.drops:,} dropped of"
-                f" {result.worst.kept + result.drops:,}"
-            )
-            points.append((result.ring.memory, result.drops, told))
-        panels[-1].series.append(Series(series_name(line[0].ring, rings, named), points))
-        if least and least in line:
-            panels[-1].mark = (least.ring.memory, 0, f"smallest: {kib(least.ring.memory)}")
-    return points_chart(
-        "Packets dropped, by the memory of the ring",
-        title,
-        "memory of all members' blocks, KiB",
-        "packets dropped",
-        panels,
-    )
-
-
-def packets_picture(rows: list[list[object]], title: str) -> str:
-    names = [str(row[2]) for row in rows]
-    groups = [f"{row[0]}, {row[1]}" for row in rows]
-    layers = [Layer("kept", [row[3] for row in rows]), Layer("dropped", [row[4] for row in rows])]
-    return bars_chart(
-        "Packets for each member, at the smallest ring of each mode that suffices",
-        "member, by mode and number of members",
-        "packets",
-        names,
-        layers,
-        [KEPT_COLOR, DROPPED_COLOR],
-        groups,
-        title,
-    )
 
 
 def table_text(results: list[Result]) -> str:
@@ -766,25 +678,6 @@ def take_filter(setup: Setup, instructions: str, folder: str) -> None:
 
 
 # ---- the search
-
-
-def repeat(room: Room, count: int) -> None:
-    """Makes the captures come several times, each time right after the last frame."""
-    names = []
-    for cpu, stream in enumerate(room.streams()):
-        name, frames = f"looped{cpu}.pcap", list(stream)
-        start = frames[0].time if frames else 0
-        length = max((frame.time for frame in frames), default=start) - start
-        with open(room.folder / name, "wb") as file:
-            writer = CaptureWriter(file)
-            for turn in range(count):
-                for frame in frames:
-                    writer.write(frame._replace(time=frame.time + turn * length))
-                if file.tell() > LARGEST_CAPTURE:
-                    size = "more than the 32 MiB that ringtap reads"
-                    raise Fault(f"--loop: {turn + 1} times {stream.path} is {size}")
-        names.append(name)
-    room.captures = names
 
 
 def looks_at_all(args: argparse.Namespace, grid: list[Ring], model: Model) -> bool:

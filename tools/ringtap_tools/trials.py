@@ -11,7 +11,7 @@ from fractions import Fraction
 from pathlib import Path
 from typing import Callable
 
-from .captures import CaptureStream, CaptureWriter
+from .captures import LARGEST_CAPTURE, CaptureStream, CaptureWriter
 from .clock import Pace, Shape
 from .files import Fault
 from .outputs import write_text
@@ -291,6 +291,25 @@ def longer(stream: CaptureStream, path: Path) -> str:
     except OSError as error:
         raise Fault(f"{path}: can't be written: {error.strerror}") from None
     return path.name
+
+
+def repeat(room: Room, count: int) -> None:
+    """Makes the captures come several times, each time right after the last frame."""
+    names = []
+    for cpu, stream in enumerate(room.streams()):
+        name, frames = f"looped{cpu}.pcap", list(stream)
+        start = frames[0].time if frames else 0
+        length = max((frame.time for frame in frames), default=start) - start
+        with open(room.folder / name, "wb") as file:
+            writer = CaptureWriter(file)
+            for turn in range(count):
+                for frame in frames:
+                    writer.write(frame._replace(time=frame.time + turn * length))
+                if file.tell() > LARGEST_CAPTURE:
+                    size = "more than the 32 MiB that ringtap reads"
+                    raise Fault(f"--loop: {turn + 1} times {stream.path} is {size}")
+        names.append(name)
+    room.captures = names
 
 
 def lines_of(results: list[Result]) -> list[list[Result]]:
