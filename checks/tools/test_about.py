@@ -131,6 +131,14 @@ def test_one_voice(here: Here) -> None:
         for name, answer in answers.items():
             assert wanted in answer.said, (name, setup, answer)
             assert "Traceback" not in answer.said and answer.status == 1, (name, setup)
+    here.text("nobody.txt", BLOCK + "members 0\ncpu a.pcap\n")
+    for name, *words in (
+        ["lost.py"], ["ring_size.py"], ["ring_size.py", "--lost", "3"], ["schedule.py", "--poll"],
+        ["long.py"], ["timeline.py", "/dev/null"],
+    ):
+        answer = here.with_program(name, "nobody.txt", *words)
+        assert (answer.printed, answer.status) == ("", 1), name
+        assert answer.said.startswith(f"{name}: nobody.txt, line 5: "), name
     said = here.with_program("lost.py", "fine.txt", "wrong.sched").said
     assert 'wrong.sched, line 2: "read 7": fine.txt has one member, which is 0' in said
     said = here.with_program("ring_size.py", "fine.txt", "--mode", "cluster_flow").said

@@ -143,9 +143,6 @@ def test_earlier(here: Here) -> None:
         "lost.py: even.0.pcap: isn't there: run ringtap first, or name a schedule, and the run is "
         "made here\n"
     )
-    here.text("no_members.txt", BLOCK + "members 0\ncpu many.pcap\n")
-    said = here.with_program("lost.py", "no_members.txt")[1]
-    assert said == "lost.py: no_members.txt, line 5: a group has a member or more\n"
     here.answer([here.program, "replay", setup, "none.sched"])
     printed, said, status = here.with_program("lost.py", setup)
     # CPU after CPU: the 50 even frames of CPU 0 and the first 6 of CPU 1 are kept, and none says of

@@ -89,7 +89,7 @@ class PieceRoom(Room):
     def check(self) -> None:
         """The program's word on the setup, of which it sees at most its own number of CPUs and
         members: what is refused is a fault."""
-        members = min(self.setup.number("members", 1), MOST_MEMBERS)
+        members = min(self.setup.members(), MOST_MEMBERS)
         names = {"filter": "filter.ddd"} if "filter" in self.setup.values else {}
         changes = {"members": str(members), "ticks": None, **names}
         lines = self.setup.with_changes(changes).split("\n")
@@ -249,7 +249,7 @@ class Dealer:
     """Which member each packet goes to, by the mode of the setup."""
 
     def __init__(self, setup: Setup) -> None:
-        self.members, self.mode = setup.number("members", 1), setup.word("mode", "cpu")
+        self.members, self.mode = setup.members(), setup.word("mode", "cpu")
         queues = [cpu.queue for cpu in setup.cpus]
         of_cpus = queues if self.mode == "qm" else range(len(queues))
         self.homes_of_cpus = [number % self.members for number in of_cpus]

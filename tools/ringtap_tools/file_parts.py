@@ -185,4 +185,4 @@ def ring_of(setup: Setup) -> Ring:
     """The ring that a setup has."""
     mode = setup.word("mode", "cpu") + ROLLOVER * ("rollover" in setup.flags)
     sizes = [setup.number(word) for word in ("block_size", "block_nr", "frame_size")]
-    return Ring(mode, setup.number("members", 1), setup.number("tov", 0), *sizes)
+    return Ring(mode, setup.members(), setup.number("tov", 0), *sizes)

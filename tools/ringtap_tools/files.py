@@ -117,6 +117,14 @@ class Setup:
             raise Fault(f"{self.path}, line {self.places[word]}: `{word}` needs one value")
         return self.values[word][0]
 
+    def members(self) -> int:
+        """How many members the group has. The program refuses none, and no tool counts with
+        none."""
+        count = self.number("members", 1)
+        if not count:
+            raise Fault(f"{self.path}, line {self.places['members']}: a group has a member or more")
+        return count
+
     def capture_paths(self) -> list[Path]:
         """Where the captures are; names count from the folder in which the tool runs, as they do
         for ringtap."""

@@ -105,7 +105,7 @@ class LongRun:
         timeout = self.shape.timeout
         every = timeout if pace.tick is None else pace.tick
         self.timer = Timer(every if timeout else 0, timeout, pace.phase)
-        count = setup.number("members", 1)
+        count = setup.members()
         self.counts = [MemberCount() for _ in range(count)]
         self.members = [self.member(at) for at in range(count)]
 

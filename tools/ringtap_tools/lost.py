@@ -100,9 +100,8 @@ def mark_replay(room: Room, captures: list[Frames], schedule: str) -> None:
 
 def earlier_outputs(setup: Setup) -> list[Path]:
     """What an earlier run saved."""
+    setup.members()
     paths = [Path(name) for name in output_names(setup, "replay") if name.endswith(".pcap")]
-    if not paths:
-        raise Fault(f"{setup.path}, line {setup.places['members']}: a group has a member or more")
     for path in paths:
         if not path.is_file():
             raise Fault(

@@ -162,7 +162,7 @@ def grid_of(setup: Setup, args: argparse.Namespace) -> list[Ring]:
     sizes = args.block_size or [setup.number("block_size")]
     counts = args.block_nr or [LEAST_BLOCKS]
     timeouts = args.tov or [setup.number("tov", 0)]
-    members = args.members or [setup.number("members", 1)]
+    members = args.members or [setup.members()]
     flag = ROLLOVER if "rollover" in setup.flags else ""
     chosen = args.mode or [f"{setup.word('mode', 'cpu')}{flag}"]
     if any(mode.startswith("hash") for mode in chosen) and "key" not in setup.values:

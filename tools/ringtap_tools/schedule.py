@@ -55,10 +55,10 @@ class Fed:
 def shape_of(setup: Setup, is_v2: bool = False) -> Shape:
     if is_v2:
         return Shape(
-            setup.number("members", 1), setup.number("frame_size"), setup.number("frame_nr"), None
+            setup.members(), setup.number("frame_size"), setup.number("frame_nr"), None
         )
     return Shape(
-        setup.number("members", 1),
+        setup.members(),
         setup.number("block_size"),
         setup.number("block_nr"),
         setup.number("tov", 0) or DEFAULT_TIMEOUT,
@@ -310,7 +310,7 @@ def polled(setup: Setup, pace: Pace, args: argparse.Namespace) -> str:
 
     mode = setup.word("mode", "cpu") + ROLLOVER * ("rollover" in setup.flags)
     sizes = [setup.number(word) for word in ("block_size", "block_nr", "frame_size")]
-    ring = Ring(mode, setup.number("members", 1), setup.number("tov", 0), *sizes, args.replay2)
+    ring = Ring(mode, setup.members(), setup.number("tov", 0), *sizes, args.replay2)
     with Room(setup, program_of(args.program)) as room:
         fed = feeds(room.streams(), pace)
         reads = Model(room, fed, pace).reads(ring, pace.phase)

@@ -345,7 +345,7 @@ class Run:
         timeout = setup.number("tov", 0) or DEFAULT_TIMEOUT
         self.rings = [
             Ring(self.story, member, room, setup.number("block_nr"), timeout)
-            for member in range(setup.number("members", 1))
+            for member in range(setup.members())
         ]
         self.mode, self.is_rolling = (
             setup.word("mode", "cpu"),
