@@ -13,6 +13,8 @@ import sys
 
 from second.hash_values import KEY
 from places import TOP
+from ringtap_tools.files import read_setup
+from ringtap_tools.notes import rollover_note
 from tools.here import BLOCK, Here, datagram, frame
 
 
@@ -168,7 +170,8 @@ def test_as_the_program(here: Here) -> None:
         here.text("made.txt", setup)
         here.text("made.sched", schedule)
         printed, said, status = here.with_program("timeline.py", "made.txt", "made.sched", "--json")
-        assert (said, status) == ("", 0), f"run {number}"
+        notes = rollover_note(read_setup(here.path / "made.txt"))
+        assert (said.splitlines(), status) == (notes, 0), f"run {number}"
         lines = here.answer([here.program, "replay", "made.txt", "made.sched"])[0].split("\n")
         told = [
             [int(word) for word in line.split()[3::2]]
