@@ -2,12 +2,13 @@
 of the machine.
 
 A test that needs a command, a module or a right says so by `@pytest.mark.needs("tcpdump")`, and
-is skipped where that isn't there. With `CI` set nothing else skips: a test that leaves itself
-out though its needs are there fails, with its reason.
+is skipped where that isn't there. With `CI` set nothing else skips: a test or a file that leaves
+itself out though its needs are there fails, with its reason.
 """
 from __future__ import annotations
 
 import os
+import re
 import shutil
 import subprocess
 import tempfile
@@ -102,25 +103,43 @@ def pytest_runtest_setup(item: pytest.Item) -> None:
                 pytest.skip(f"needs {what}: {why}")
 
 
-@pytest.hookimpl(hookwrapper=True)
-def pytest_runtest_makereport(item: pytest.Item, call: pytest.CallInfo) -> Iterator[None]:
-    """With CI set a skip that no missing need explains is a failure."""
-    report = (yield).get_result()
+Report = pytest.TestReport | pytest.CollectReport
+
+
+def reason(report: Report) -> str:
+    """Why a test or a file was skipped."""
+    why = report.longrepr[2] if isinstance(report.longrepr, tuple) else str(report.longrepr)
+    return why.removeprefix("Skipped: ")
+
+
+def refuse_unexplained(report: Report) -> None:
+    """With CI set a skip is a failure but where it names a need, as `needs tcpdump: ..`, that
+    isn't there."""
     if not report.skipped or not os.environ.get("CI") or hasattr(report, "wasxfail"):
         return
-    why = str(call.excinfo.value) if call.excinfo else "no reason"
-    if not why.startswith("needs "):
+    why = reason(report)
+    need = re.match(r"needs (.+?): ", why)
+    if not need or rights.lack(need[1]) is None:
         report.outcome = "failed"
-        report.longrepr = f"{item.nodeid} leaves itself out, though what it needs is there: {why}"
+        told = "leaves itself out, though what it needs is there"
+        report.longrepr = f"{report.nodeid} {told}: {why}"
+
+
+@pytest.hookimpl(hookwrapper=True)
+def pytest_runtest_makereport() -> Iterator[None]:
+    refuse_unexplained((yield).get_result())
+
+
+@pytest.hookimpl(hookwrapper=True)
+def pytest_make_collect_report() -> Iterator[None]:
+    refuse_unexplained((yield).get_result())
 
 
 def pytest_terminal_summary(terminalreporter: pytest.TerminalReporter) -> None:
     """One line for each reason for which something was skipped, and one of sums."""
     counts: dict[str, int] = {}
     for report in terminalreporter.stats.get("skipped", []):
-        why = report.longrepr[2] if isinstance(report.longrepr, tuple) else str(report.longrepr)
-        why = why.removeprefix("Skipped: ")
-        counts[why] = counts.get(why, 0) + 1
+        counts[reason(report)] = counts.get(reason(report), 0) + 1
     for why, count in sorted(counts.items()):
         terminalreporter.write_line(f"skipped: {count} {'checks' if count > 1 else 'check'}: {why}")
     found = {

@@ -6,9 +6,11 @@ import importlib.util
 import os
 import shutil
 import socket
+import stat
 import subprocess
 import tempfile
 from collections.abc import Callable, Sequence
+from pathlib import Path
 
 
 def works(words: Sequence[str]) -> bool:
@@ -55,6 +57,22 @@ def chroot() -> bool:
     return works([*words, "chroot", "/", "true"])
 
 
+def make_null(path: Path) -> None:
+    """Makes a file that is the system's /dev/null, for every user."""
+    os.mknod(path, stat.S_IFCHR | 0o666, os.makedev(1, 3))
+    path.chmod(0o666)
+    path.write_bytes(b"")
+
+
+def device_file() -> bool:
+    with tempfile.TemporaryDirectory() as folder:
+        try:
+            make_null(Path(folder, "null"))
+        except OSError:
+            return False
+    return True
+
+
 RIGHTS: dict[str, Callable[[], bool]] = {
     "raw sockets": lambda: opens_socket(socket.AF_INET, 253),
     "packet sockets": lambda: opens_socket(socket.AF_PACKET, 0),
@@ -62,6 +80,7 @@ RIGHTS: dict[str, Callable[[], bool]] = {
     "network namespaces": network_namespace,
     "another user": other_user,
     "a chroot": chroot,
+    "device files": device_file,
 }
 
 

@@ -66,19 +66,26 @@ def test_that_leaves_itself_out():
     pytest.skip("it is Sunday")
 
 
+@pytest.mark.needs("sh")
+def test_that_names_what_is_there():
+    pytest.skip("needs sh: it is Sunday")
+
+
 def test_that_passes():
     pass
 '''
+SKIPPING_FILE = 'import pytest\n\npytest.skip("it is Monday", allow_module_level=True)\n'
 LACKING = "skipped: 1 check: needs no-such-command: it isn't here (checks/needs.sh)"
 
 
 def skipping(room: Path, ci: str) -> subprocess.CompletedProcess:
-    """A run of three tests, by the settings of these checks."""
+    """A run of four tests and of a file that has none, by the settings of these checks."""
     (room / "test_some.py").write_text(SKIPPING)
+    (room / "test_whole.py").write_text(SKIPPING_FILE)
     words = ["-q", "-p", "conftest", "-p", "no:cacheprovider", "-c", TOP / "setup.cfg"]
+    words += ["--continue-on-collection-errors", f"--rootdir={room}"]
     return subprocess.run(
-        [sys.executable, "-B", "-m", "pytest", *words, f"--rootdir={room}", "test_some.py"],
-        cwd=room,
+        [sys.executable, "-B", "-m", "pytest", *words, "test_some.py", "test_whole.py"], cwd=room,
         env={**os.environ, "PYTHONPATH": str(TOP / "checks"), "CI": ci}, capture_output=True,
         text=True, check=False
     )
@@ -86,15 +93,21 @@ def skipping(room: Path, ci: str) -> subprocess.CompletedProcess:
 
 def test_a_skip_is_said(room: Path) -> None:
     lines = skipping(room, "").stdout.splitlines()
-    assert {LACKING, "skipped: 1 check: it is Sunday"} <= {*lines}
-    assert "checks: 1 passed, 0 failed, 2 skipped" in lines
+    reasons = {"it is Sunday", "it is Monday", "needs sh: it is Sunday"}
+    assert {LACKING, *(f"skipped: 1 check: {why}" for why in reasons)} <= {*lines}
+    assert "checks: 1 passed, 0 failed, 4 skipped" in lines
 
 
 def test_in_the_gate_a_skip_needs_a_need(room: Path) -> None:
+    """A need that isn't there; one that is there explains nothing."""
     done = skipping(room, "gate")
     lines = done.stdout.splitlines()
     assert done.returncode == 1
-    assert "checks: 1 passed, 1 failed, 1 skipped" in lines
+    assert "checks: 1 passed, 3 failed, 1 skipped" in lines
     assert LACKING in lines
-    said = "leaves itself out, though what it needs is there: it is Sunday"
-    assert f"test_some.py::test_that_leaves_itself_out {said}" in lines
+    said = "leaves itself out, though what it needs is there"
+    assert {
+        f"test_some.py::test_that_leaves_itself_out {said}: it is Sunday",
+        f"test_some.py::test_that_names_what_is_there {said}: needs sh: it is Sunday",
+        f"test_whole.py {said}: it is Monday",
+    } <= {*lines}

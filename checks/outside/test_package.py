@@ -6,7 +6,6 @@ from __future__ import annotations
 import os
 import re
 import shutil
-import stat
 import subprocess
 import tarfile
 from collections.abc import Iterator
@@ -14,6 +13,7 @@ from pathlib import Path
 
 import pytest
 
+import rights
 from conftest import new_room
 from outside import documents
 from places import PROGRAMS, RINGSIZE, TOP
@@ -185,15 +185,10 @@ def by_user(root: Path, command: str) -> str:
 def with_null(root: Path) -> None:
     """The system's /dev/null in another root: a tool hands outputs that nobody asked for to it."""
     (root / "dev").mkdir(exist_ok=True)
-    try:
-        os.mknod(root / "dev/null", stat.S_IFCHR | 0o666, os.makedev(1, 3))
-        (root / "dev/null").chmod(0o666)
-        (root / "dev/null").write_bytes(b"")
-    except OSError as why:
-        pytest.skip(f"needs the right to make /dev/null in a root: {why}")
+    rights.make_null(root / "dev/null")
 
 
-@pytest.mark.needs("a chroot")
+@pytest.mark.needs("a chroot", "device files")
 def test_readme(root: Path) -> None:
     """Its commands, with the package's names for the tools."""
     with_null(root)

@@ -13,7 +13,7 @@ from pathlib import Path
 
 import pytest
 
-from places import RINGSIZE, TOP
+from places import TOP
 from ringtap_tools.captures import CaptureStream
 from ringtap_tools.clock import Pace
 from ringtap_tools.deals import PieceRoom
@@ -138,10 +138,9 @@ def test_no_smallest_ring(here: Here, monkeypatch: pytest.MonkeyPatch) -> None:
     assert not (here.path / "told").exists()
 
 
-@pytest.mark.skipif(not RINGSIZE.exists(), reason="needs ringsize: none is built")
-def test_beside_ring_size(here: Here, monkeypatch: pytest.MonkeyPatch) -> None:
+def test_beside_ring_size(here: Here, sizer: Path, monkeypatch: pytest.MonkeyPatch) -> None:
     """long.py and ring_size.py name the same ring."""
-    monkeypatch.setenv("RINGSIZE", str(RINGSIZE))
+    monkeypatch.setenv("RINGSIZE", str(sizer))
     (here.path / "demo").symlink_to(TOP / "demo")
     words = ["demo/small.txt", "--pause", "10", "--json"]
     found = json.loads(here.with_program("long.py", *words, "--smallest").printed)
