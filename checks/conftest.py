@@ -18,6 +18,7 @@ from pathlib import Path
 import pytest
 
 import rights
+from differing import diff
 from places import PROGRAMS, RINGSIZE, UNBUILT
 
 
@@ -91,6 +92,17 @@ def inside(room: Path, monkeypatch: pytest.MonkeyPatch) -> Path:
     return room
 
 
+# ---- what differs
+
+differing_lines: list[str] = []  # of the last comparison that failed
+
+
+def pytest_assertrepr_compare(op: str, left: object, right: object) -> None:
+    """Keeps a diff of lines, which is shown below the failure whole."""
+    if op == "==":
+        differing_lines[:] = diff(left, right)
+
+
 # ---- what is skipped
 
 lacking: set[str] = set()  # one line for each need that isn't there
@@ -127,7 +139,11 @@ def refuse_unexplained(report: Report) -> None:
 
 @pytest.hookimpl(hookwrapper=True)
 def pytest_runtest_makereport() -> Iterator[None]:
-    refuse_unexplained((yield).get_result())
+    report = (yield).get_result()
+    refuse_unexplained(report)
+    if report.failed and differing_lines:
+        report.sections.append(("what differs", "\n".join(differing_lines)))
+    differing_lines.clear()
 
 
 @pytest.hookimpl(hookwrapper=True)

@@ -1,5 +1,5 @@
 """.ci/run has the checks run where the proofs passed, and answers as it has to; with CI set no
-check leaves itself out."""
+check leaves itself out, and what differs in one is shown as a diff of lines."""
 from __future__ import annotations
 
 import os
@@ -78,17 +78,22 @@ SKIPPING_FILE = 'import pytest\n\npytest.skip("it is Monday", allow_module_level
 LACKING = "skipped: 1 check: needs no-such-command: it isn't here (checks/needs.sh)"
 
 
-def skipping(room: Path, ci: str) -> subprocess.CompletedProcess:
-    """A run of four tests and of a file that has none, by the settings of these checks."""
-    (room / "test_some.py").write_text(SKIPPING)
-    (room / "test_whole.py").write_text(SKIPPING_FILE)
+def run_tests(room: Path, texts: dict[str, str], ci: str = "") -> subprocess.CompletedProcess:
+    """A run of files of tests, by the settings of these checks."""
+    for name, text in texts.items():
+        (room / name).write_text(text)
     words = ["-q", "-p", "conftest", "-p", "no:cacheprovider", "-c", TOP / "setup.cfg"]
-    words += ["--continue-on-collection-errors", f"--rootdir={room}"]
+    words += ["--continue-on-collection-errors", f"--rootdir={room}", *texts]
     return subprocess.run(
-        [sys.executable, "-B", "-m", "pytest", *words, "test_some.py", "test_whole.py"], cwd=room,
+        [sys.executable, "-B", "-m", "pytest", *words], cwd=room,
         env={**os.environ, "PYTHONPATH": str(TOP / "checks"), "CI": ci}, capture_output=True,
         text=True, check=False
     )
+
+
+def skipping(room: Path, ci: str) -> subprocess.CompletedProcess:
+    """Four tests, of which three leave themselves out, and a file that does."""
+    return run_tests(room, {"test_some.py": SKIPPING, "test_whole.py": SKIPPING_FILE}, ci)
 
 
 def test_a_skip_is_said(room: Path) -> None:
@@ -111,3 +116,34 @@ def test_in_the_gate_a_skip_needs_a_need(room: Path) -> None:
         f"test_some.py::test_that_names_what_is_there {said}: needs sh: it is Sunday",
         f"test_whole.py {said}: it is Monday",
     } <= {*lines}
+
+
+DIFFERING = '''
+def test_lines():
+    text = "a\\n" * 50 + "b\\n" + "c\\n" * 50
+    assert {"lines": text, "bytes": bytes(40)} == {
+        "lines": text.replace("b", "B"), "bytes": bytes(20) + b"\\1" + bytes(19)
+    }
+'''
+# Line 56 is the 51st of the text, which stands below four lines of bytes and its own name.
+DIFF = """--- wanted
++++ found
+@@ -1,5 +1,5 @@
+ bytes:
+   0: 00000000 00000000 00000000 00000000
+-  16: 00000000 01000000 00000000 00000000
++  16: 00000000 00000000 00000000 00000000
+   32: 00000000 00000000
+ lines:
+@@ -54,5 +54,5 @@
+   a
+   a
+-  B
++  b
+   c
+   c
+"""
+
+
+def test_what_differs_is_a_diff_of_lines(room: Path) -> None:
+    assert DIFF in run_tests(room, {"test_some.py": DIFFERING}).stdout

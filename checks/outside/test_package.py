@@ -71,6 +71,11 @@ def test_the_archive_has_the_same(made: Path, unpacked: Path) -> None:
     assert sizes == {name: here[name].stat().st_size for name in sizes}
 
 
+def test_it_says_that_there_is_no_licence(unpacked: Path) -> None:
+    said = (unpacked / "usr/share/doc/ringtap/copyright").read_text()
+    assert said.startswith("ringtap: no licence is given yet; ")
+
+
 def test_no_link_of_a_page_is_dead(unpacked: Path) -> None:
     pages = list((unpacked / "usr/share/doc/ringtap").rglob("*.md"))
     assert len(pages) > 10

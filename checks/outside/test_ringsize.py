@@ -14,7 +14,7 @@ import pytest
 
 import running
 from outside.refusing import Refusing
-from outside.test_files import UNREADABLE, drip
+from outside.test_files import UNREADABLE, Run, drip
 from places import TOP
 from second.capture_frames import frames_of
 
@@ -38,12 +38,6 @@ REFUSED = [
     ("", 0, "missing"), ("stall 1 1", 0, "missing"), ("pause 5\nfrom 5", 0, "bad_from"),
     ("poll 1\nfrom 0", 0, "bad_from"), ("pause 1\nslots\nphases all", 0, "bad_phase"),
 ]
-
-
-@dataclass
-class Run:
-    printed: str
-    status: int
 
 
 @dataclass

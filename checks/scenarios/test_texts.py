@@ -193,10 +193,10 @@ def test_a_slip(what: str) -> None:
     assert said_of(slipped(slip)) == f"my.txt:{slip[2]}: {slip[3]}"
 
 
-def by_command(room: Path, text: str) -> subprocess.CompletedProcess:
+def by_command(room: Path, text: str, *words: str | Path) -> subprocess.CompletedProcess:
     """What `checks/scenario.py` does with a file."""
     (room / "my.txt").write_text(text, encoding="utf-8")
-    words = [sys.executable, "-B", TOP / "checks/scenario.py", "my.txt"]
+    words = [sys.executable, "-B", TOP / "checks/scenario.py", *words, "my.txt"]
     return subprocess.run(words, cwd=room, capture_output=True, text=True, check=False)
 
 
@@ -280,12 +280,14 @@ def test_fields_of_the_runner() -> None:
     assert tables == FIELDS
 
 
+DIFFERING = GOOD.replace("packets 7 drops 3", "packets 8 drops 3").replace(
+    "sll_halen 6", "sll_halen 8"
+)
+
+
 def test_other_lines_are_a_diff_in_memory(room: Path) -> None:
-    done = by_runner(
-        room,
-        GOOD.replace("packets 7 drops 3", "packets 8 drops 3")
-        .replace("frame_nr 4 |", "frame_nr 4 | dump yes |").replace("sll_halen 6", "sll_halen 8")
-    )
+    """It is carried out twice, and what differs is said once."""
+    done = by_runner(room, DIFFERING)
     assert done.stdout == """my.txt:9: a full ring: it differs
          9   0 Fine
         12   cpu 0 frames 7 arrivals 7 end ok
@@ -299,20 +301,28 @@ my.txt: 1 scenarios, 1 differ
 """
 
 
-def test_other_lines_are_a_diff(room: Path) -> None:
-    """With the numbers of the lines that say what is expected."""
-    done = by_command(
-        room,
-        GOOD.replace("packets 7 drops 3", "packets 8 drops 3").replace("sll_halen 6", "sll_halen 8")
-    )
-    assert done.stdout == """my.txt:9: a full ring: the second program: other lines are printed
+SECOND = """my.txt:9: a full ring: the second program: other lines are printed
         12   cpu 0 frames 7 arrivals 7 end ok
         12 - member 0 packets 8 drops 3 freezes 1 blocks 2
            + member 0 packets 7 drops 3 freezes 1 blocks 2
         13   total arrivals 7 filtered 0 kept 4 drops 3
         out.0.blk 48 packet sll_halen 8: at 107 there are the bytes 06
-my.txt: 1 scenarios, 1 worked out, 0 carried out, 1 differ
 """
+
+
+def test_other_lines_are_a_diff(room: Path) -> None:
+    """With the numbers of the lines that say what is expected."""
+    done = by_command(room, DIFFERING)
+    counts = "my.txt: 1 scenarios, 1 worked out, 0 carried out, 1 differ\n"
+    assert done.stdout == SECOND + counts
+
+
+def test_a_program_is_told_once(room: Path, program: Path) -> None:
+    """Of the two times that it is carried out, with its blocks dumped and without."""
+    done = by_command(room, DIFFERING, "--program", program)
+    counts = "my.txt: 1 scenarios, 1 worked out, 1 carried out, 1 differ\n"
+    again = SECOND.replace("my.txt:9: a full ring: the second program", "    the program, dumped")
+    assert done.stdout == SECOND + again + counts
 
 
 @pytest.mark.parametrize(

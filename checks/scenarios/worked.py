@@ -403,11 +403,18 @@ def differences(scenario: Scenario, program: Path | None) -> Iterator[str]:
     if can_be_worked_out(scenario):
         yield from after("the second program", second_differs(scenario))
     if program and can_be_carried_out(scenario):
-        yield from after("the program", program_differs(scenario, program, ""))
-        if scenario.values("member") and "dump yes" not in scenario.text("conf", "with"):
-            yield from after(
-                "the program, dumped", program_differs(scenario, program, "dump yes\n")
-            )
+        yield from differs_either_way(scenario, program)
+
+
+def differs_either_way(scenario: Scenario, program: Path) -> list[str]:
+    """What of a scenario a program does otherwise: with its blocks dumped, where it has members,
+    and where nothing differs as it is."""
+    is_dumped = "dump yes" in scenario.text("conf", "with")
+    found: list[str] = []
+    if scenario.values("member") and not is_dumped:
+        dumped = program_differs(scenario, program, "dump yes\n")
+        found = list(after("the program, dumped", dumped))
+    return found or list(after("the program", program_differs(scenario, program, "")))
 
 
 def after(who: str, faults: Iterator[str]) -> Iterator[str]:

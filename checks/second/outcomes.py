@@ -7,7 +7,6 @@ is wrong with how the run ends.
 """
 from __future__ import annotations
 
-import difflib
 import os
 import tempfile
 from collections.abc import Callable, Iterable, Iterator, Sequence
@@ -15,6 +14,7 @@ from pathlib import Path
 from typing import Any, Protocol, TypeVar
 
 import running
+from differing import diff
 from second.program import save
 from second.runs import Files
 
@@ -93,10 +93,7 @@ def found_wrong(faults: Faults[CaseOf], case: CaseOf, run: Run[CaseOf]) -> list[
 
 def line_difference(expected: str, found: str) -> str:
     """Lines that are expected and lines that are found: those that differ after `-` and `+`."""
-    lines = difflib.unified_diff(
-        expected.splitlines(), found.splitlines(), "expected", "found", n=20, lineterm=""
-    )
-    return "\n".join(lines)
+    return "\n".join(diff(found, expected, 20))
 
 
 def shown(case: Case) -> str:

@@ -222,33 +222,34 @@ impl<'a> Case<'a> {
         after.push_wrong(text)
     }
 
-    /// Carries the scenario out with its gate, and appends how the run differs from it.
-    fn push_run<R>(&self, rt: &R, text: &mut String, gate: &ScriptGate) -> Result<(), Memory>
+    /// Carries the scenario out with a gate, and appends how the run differs from it.
+    fn push_run<R>(&self, rt: &R, text: &mut String) -> Result<(), Memory>
     where
         R: Threads + Wait + Sync,
     {
+        let gate = ScriptGate::new(self)?;
         let lines = self.text(">")?;
-        let ran = self.run(rt, gate)?;
-        self.push_wrong(text, &self.wanted(lines.as_str())?, &ran)
+        let ran = self.run(rt, &gate)?;
+        self.push_wrong(text, &self.wanted(lines.as_str())?, &ran)?;
+        if gate.given_up() > 0 {
+            text.push_str("the gate gave up: a turn never came\n")?;
+        }
+        Ok(())
     }
 }
 
-/// Carries out a scenario as it is, and with its blocks dumped: how the run differs from it; empty
-/// if it doesn't.
+/// Carries out a scenario with its blocks dumped, and where nothing differs as it is: how the run
+/// differs from it; empty if it doesn't.
 pub(crate) fn differences<R: Threads + Wait + Sync>(
     rt: &R,
     whole: &Case<'_>,
 ) -> Result<String, Memory> {
     let mut text = String::new(whole.alloc);
     let mut case = *whole;
-    let is_twice = is_dumped_too(&case.scenario) && !case.is_dumped()?;
-    for _ in 0..if is_twice { 2 } else { 1 } {
-        let gate = ScriptGate::new(&case)?;
-        case.push_run(rt, &mut text, &gate)?;
-        if gate.given_up() > 0 {
-            text.push_str("the gate gave up: a turn never came\n")?;
-        }
-        case.dump = true;
+    case.dump = is_dumped_too(&case.scenario) && !case.is_dumped()?;
+    case.push_run(rt, &mut text)?;
+    if case.dump && text.is_empty() {
+        whole.push_run(rt, &mut text)?;
     }
     Ok(text)
 }
