@@ -36,9 +36,11 @@ def pytest_addoption(parser: pytest.Parser) -> None:
 
 
 def pytest_configure(config: pytest.Config) -> None:
-    config.addinivalue_line(
-        "markers", "needs(what, ..): commands, modules and rights without which the test is skipped"
-    )
+    for line in (
+        "needs(what, ..): commands, modules and rights without which the test is skipped",
+        "xdist_group(name): tests for which something is made once, so one process has them all",
+    ):
+        config.addinivalue_line("markers", line)
 
 
 def pytest_generate_tests(metafunc: pytest.Metafunc) -> None:

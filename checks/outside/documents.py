@@ -290,6 +290,13 @@ def agrees(printed: str, expected: list[str]) -> bool:
     return re.fullmatch(pattern, printed) is not None
 
 
+def otherwise(expected: list[str], printed: str, complained: str = "") -> str | None:
+    """What is printed in place of the lines that are expected, if something else is."""
+    if agrees(printed, expected):
+        return None
+    return f"it printed\n{printed}{complained}in place of\n" + "\n".join(expected)
+
+
 def differs(command: str, expected: list[str], room: str, program: str) -> str | None:
     """What is wrong with what a command prints on standard output, if something is."""
     path = f"{pathlib.Path(program).resolve().parent}:{os.environ['PATH']}"
@@ -299,10 +306,5 @@ def differs(command: str, expected: list[str], room: str, program: str) -> str |
     )
     if done is None:
         return why
-    printed, complained = done.stdout.decode("utf-8", "replace"), done.stderr.decode(
-        "utf-8", "replace"
-    )
-    return (
-        None if agrees(printed, expected)
-        else f"it printed\n{printed}{complained}in place of\n" + "\n".join(expected)
-    )
+    texts = (text.decode("utf-8", "replace") for text in (done.stdout, done.stderr))
+    return otherwise(expected, *texts)

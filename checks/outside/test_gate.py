@@ -52,6 +52,16 @@ def test_gate(proofs: int, checks: int, status: int, called: list[str], room: Pa
     assert (room / "called").read_text().splitlines() == called
 
 
+def test_nothing_needs_xdist() -> None:
+    """Where it isn't there the tests are found all the same."""
+    words = ["-q", "--collect-only", "-p", "no:xdist", "-p", "no:cacheprovider"]
+    done = subprocess.run(
+        [sys.executable, "-B", "-m", "pytest", *words, "checks/kernel", "checks/outside"], cwd=TOP,
+        capture_output=True, text=True, check=False
+    )
+    assert done.returncode == 0, done.stdout
+
+
 SKIPPING = '''
 import pytest
 

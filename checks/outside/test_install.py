@@ -17,6 +17,8 @@ import running
 from conftest import new_room
 from places import PROGRAMS, RINGSIZE, TOP
 
+pytestmark = pytest.mark.xdist_group("install")  # it is installed once
+
 TOOLS = [
     f"ringtap-{name}"
     for name in (
