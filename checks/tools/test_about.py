@@ -81,11 +81,12 @@ def test_no_answer(here: Here) -> None:
 
 
 def test_small_gzip_of_much(here: Here) -> None:
-    """200 MiB of zeros, about 1,000 times smaller as gzip, are read no further than 64 MiB."""
+    """200 MiB of zeros in frames, about 1,000 times smaller as gzip, are read no further than 64
+    MiB."""
     with gzip.open(here.path / "zeros.gz", "wb", 9) as file:
         file.write(header())
-        for _ in range(200):
-            file.write(bytes(1 << 20))
+        for at in range(800):
+            file.write(record_at(at, bytes(1 << 18)))
     said, status = here.tool("busiest.py", "zeros.gz")[1:]
     assert said == (
         "busiest.py: zeros.gz: its gzip unpacks to more than 200 times its size, "

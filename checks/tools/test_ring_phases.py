@@ -36,9 +36,9 @@ def test_least_by_hand(here: Here) -> None:
 
 
 def test_program_at_each_phase(here: Here) -> None:
-    """What the model says of each phase is what the program prints there."""
+    """What the model says of each phase, at one beginning, is what the program prints there."""
     steady(here)
-    words = ["steady.txt", "--pause", "7", "--stall", "10:60"]
+    words = ["steady.txt", "--pause", "7", "--from", "0", "--stall", "10:60"]
     found = json.loads(here.with_program("ring_size.py", *words, "--json").printed)
     two = next(ring for ring in found["rings"] if ring["block_nr"] == 2)
     for phase in range(0, 56, 11):
