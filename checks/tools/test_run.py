@@ -27,10 +27,7 @@ from tools.here import Answer, BLOCK, Here, frame
 
 SETUP = BLOCK + "cpu one.pcap\n"
 DONE = "ringtap: status 0: done; outputs are in {}\n"
-SETUP_REFUSED, TEXT_REFUSED = (
-    "ringtap: status 2: the setup is refused\n",
-    "ringtap: status 3: a filter, moments or a schedule is refused\n"
-)
+SETUP_REFUSED = "ringtap: status 2: the setup is refused\n"
 
 
 @pytest.fixture
