@@ -2,8 +2,8 @@
 has nothing else but libc and python3 it runs README's first commands as an ordinary user, and no
 link of an installed page is dead.
 
-With `MIRROR=http://deb.debian.org/debian` in the environment the same is done in a root that
-debootstrap makes from there.
+With `DEBIAN_MIRROR=http://deb.debian.org/debian` in the environment the same is done in a root
+that debootstrap makes from there.
 """
 from __future__ import annotations
 
@@ -25,7 +25,7 @@ from places import PROGRAMS, RINGSIZE, TOP
 # It is made once.
 pytestmark = [pytest.mark.needs("dpkg-deb"), pytest.mark.xdist_group("package")]
 
-MIRROR = os.environ.get("MIRROR")
+MIRROR = os.environ.get("DEBIAN_MIRROR")
 ROOTS = ["by_hand", *["debootstrap"] * bool(MIRROR)]
 
 
