@@ -86,7 +86,7 @@ paced_sound bounds draft (Some paced) reader p q h =
     (λ given e. phases_sound bounds.tov draft.slots draft.phases given p.phases e)
     (beginnings_sound paced draft.beginnings) h
 
-line_ok : (read : Result ReaderDraft (ℕ × ReaderKind)) (draft : ReaderDraft) → at_line read ≡ Ok draft → read ≡ Ok draft
+pub line_ok : (read : Result ReaderDraft (ℕ × ReaderKind)) (draft : ReaderDraft) → at_line read ≡ Ok draft → read ≡ Ok draft
 line_ok (Ok made) draft h = ap Ok (ok_same made draft h)
 line_ok (Err fault) draft h = cc
 

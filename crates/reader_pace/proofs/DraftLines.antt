@@ -29,18 +29,18 @@ use Rattle.reader_pace.specs.declared.reader_words.ReaderWord.TheVariants as wor
 
 -- ---- values
 
-made_keeps : {A B : Type 0} (make : A → B) (given : Result A ReaderKind) (next : B) (Q : B → Type 0)
+pub made_keeps : {A B : Type 0} (make : A → B) (given : Result A ReaderKind) (next : B) (Q : B → Type 0)
     → ((value : A) → given ≡ Ok value → Q (make value)) → made make given ≡ Ok next → Q next
 made_keeps make (Ok value) next Q k h = subst Q (ok_same (make value) next h) (k value refl)
 made_keeps make (Err fault) next Q k h = cc
 
-two_keep : {A B C : Type 0} (make : A → B → C) (one : Result A ReaderKind) (other : Result B ReaderKind) (next : C)
+pub two_keep : {A B C : Type 0} (make : A → B → C) (one : Result A ReaderKind) (other : Result B ReaderKind) (next : C)
     (Q : C → Type 0)
     → ((a : A) (b : B) → one ≡ Ok a → other ≡ Ok b → Q (make a b)) → made_of_two make one other ≡ Ok next → Q next
 two_keep make (Ok a) other next Q k h = made_keeps (make a) other next Q (λ b e. k a b refl e) h
 two_keep make (Err fault) other next Q k h = cc
 
-once_keeps : {A B : Type 0} (make : Option A → B) (before : Option A) (given : Result A ReaderKind) (next : B)
+pub once_keeps : {A B : Type 0} (make : Option A → B) (before : Option A) (given : Result A ReaderKind) (next : B)
     (Q : B → Type 0)
     → ((value : A) → given ≡ Ok value → Q (make (Some value))) → made make (put_once before given) ≡ Ok next → Q next
 once_keeps make (Some before) given next Q k h = cc

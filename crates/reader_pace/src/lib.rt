@@ -15,4 +15,4 @@ pub use laws::{
 };
 pub use paces::{Beginnings, MoreFile, MoreFiles, Pace, Phases, Stall, StallList};
 pub use reader_error::{ReaderError, ReaderKind};
-pub use readers::{PacedReader, read_reader};
+pub use readers::{PacedReader, read_reader, says_slots};

@@ -4,12 +4,17 @@ ghost use Rattle.setup_text.specs.Answers.{IsOnlyWant, IsRight};
 ghost use Rattle.reader_pace.specs.Answers.{is_reader_want, is_want, reader_memory};
 ghost use Rattle.reader_pace.specs.Readers.{beginnings_after, draft_of, phases_after, reader_after};
 ghost use Rattle.reader_pace.specs.Readers.{reader_of};
+ghost use Rattle.reader_pace.specs.ReaderWords.{begins_with_slots, says_slots};
+ghost use Rattle.reader_pace.specs.ReaderWords.{some_begin_with_slots};
 ghost use Rattle.reader_pace.specs.Sound.{IsReader};
+ghost use Rattle.text_lines.specs.Lines.{lines_of};
+ghost use Rattle.text_lines.specs.Words.{words_of};
 
 use crate::drafts::{Bounds, ReaderDraft};
+use crate::reader_words::ReaderWord;
 use crate::{Beginnings, MoreFiles, Pace, Phases, ReaderError, ReaderKind, StallList};
 use std::alloc::Global;
-use text_lines::{LARGEST_TEXT, is_passed_over, next_line};
+use text_lines::{LARGEST_TEXT, is_passed_over, next_line, next_word};
 
 /// How the members of a group are read, and whenever the timer and the reader may have begun.
 #[derive(Debug, Drop)]
@@ -34,7 +39,7 @@ pub struct PacedReader {
 /// Returns `TooLarge` for more than 1,048,576 bytes, with line 0. Then the first line with a fault
 /// is reported, with its number from 1. If no line has one, `Missing` if no line says the pace,
 /// then `BadPhase` and then `BadFrom`, each with line 0. `Memory`, an allocation that failed, has
-/// line 0 too.
+/// line 0 too. A reader that is accepted has the kind of rings that `says_slots` reports.
 pub fn read_reader(
     alloc: Global,
     text: &[u8],
@@ -44,6 +49,7 @@ pub fn read_reader(
     ensures right { IsRight is_reader_want result (reader_of cpus tov text.now) }
     ensures memory { IsOnlyWant is_reader_want reader_memory result }
     ensures sound { IfOk result (IsReader cpus tov) }
+    ensures slots { IfOk result (λ reader. reader.slots ≡ says_slots text.now) }
 {
     if text.len() > LARGEST_TEXT {
         return Err(ReaderError {
@@ -55,6 +61,42 @@ pub fn read_reader(
     match complete(draft) {
         Ok(reader) => Ok(reader),
         Err(kind) => Err(ReaderError { line: 0, kind }),
+    }
+}
+
+/// Whether a reader's text says that the rings are of slots: whether a line of it begins with the
+/// word `slots`. A text of more than 1,048,576 bytes says nothing. Nothing else is tested, so that
+/// a setup can be read as `replay2` takes it before the text is accepted for that setup.
+pub fn says_slots(text: &[u8]) -> bool
+    ensures { result ≡ says_slots text.now }
+{
+    if text.len() > LARGEST_TEXT {
+        return false;
+    }
+    some_begin_with_slots(text)
+}
+
+/// Whether a line of a text begins with the word `slots`.
+fn some_begin_with_slots(text: &[u8]) -> bool
+    ensures { result ≡ some_begin_with_slots (lines_of text.now) }
+{
+    let mut rest = text;
+    while let Some((line, behind)) = next_line(rest) {
+        if begins_with_slots(line) {
+            return true;
+        }
+        rest = behind;
+    }
+    false
+}
+
+/// Whether a line begins with the word `slots`.
+fn begins_with_slots(line: &[u8]) -> bool
+    ensures { result ≡ begins_with_slots (words_of line.now) }
+{
+    match next_word(line) {
+        Some((first, _)) => matches!(ReaderWord::named(first), Some(ReaderWord::Slots)),
+        None => false,
     }
 }
 

@@ -2,7 +2,9 @@ use Rattle.std.proofs.Common.{ap, sym, ◌∙◌, arith}
 use Rattle.std.proofs.lemmas.Result.{err_from_is_err_and}
 use Rattle.setup_text.proofs.Texts.{when_large, when_small}
 use Rattle.reader_pace.specs.Readers.{at_end, completed, reader_of}
+use Rattle.reader_pace.specs.ReaderWords.{says_slots}
 use Rattle.reader_pace.proofs.Accepted.{reader_accepted}
+use Rattle.reader_pace.proofs.SaidSlots.{reader_says}
 use Rattle.reader_pace.proofs.readers.read_reader.Goals as goal
 
 pub returns-then-text-gt-LARGEST_TEXT-clause-right : goal.returns-then-text-gt-LARGEST_TEXT-clause-right
@@ -34,3 +36,10 @@ pub returns-in-Ok-clause-sound : goal.returns-in-Ok-clause-sound
 returns-in-Ok-clause-sound c =
     reader_accepted (record { cpus = c.args.cpus; tov = c.args.tov }) c.args.text.now c.in_ok-draft.draft c.in-Ok.reader
     c.in_ok-draft.ensures.right (sym c.in-Ok.ensures)
+
+pub returns-in-Ok-clause-slots : goal.returns-in-Ok-clause-slots
+unfolding says_slots
+returns-in-Ok-clause-slots c =
+    reader_says (record { cpus = c.args.cpus; tov = c.args.tov }) c.args.text.now c.in_ok-draft.draft c.in-Ok.reader
+    c.in_ok-draft.ensures.right (sym c.in-Ok.ensures)
+    ∙ sym (when_small c.args.text.now _ _ (omega arith))
