@@ -67,10 +67,11 @@ after_frames rules room [] dealing = dealing
 after_frames rules room (frame ∷ frames) dealing =
     after_frames rules room frames (after_frame rules room frame dealing)
 
--- the room of a block: some bytes beside a packet's header, and at most those of the largest block
+-- the room of a block: some bytes beside a packet's header, and at most those of the largest block,
+-- or of one that keeps as much of a packet as the largest slot
 pub record IsRoom (room : ℕ) : Type 0 where
   pub some : 82 < room
-  pub few : room ≤ 1048576
+  pub few : room ≤ 1048592
 
 -- a frame of the capture of a CPU, as a decoder gives it
 pub record IsReadable (number : ℕ) (frame : Frame) : Type 0 where
