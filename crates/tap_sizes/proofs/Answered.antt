@@ -1,17 +1,16 @@
 -- Everything that an answer guarantees, by what was found or when memory ran out.
 use Rattle.std.proofs.Common.{◌≡◌, ◌≢◌, ℕ, ◌≤◌, ◌+◌, Bool, true, false, List, [], ◌∷◌, Option, None, Some, inl, inr}
 use Rattle.std.proofs.Common.{refl, sym, ap, ◌∙◌, subst, arith}
-use Rattle.std.specs.Prelude.{◌⊎◌, IfOk, IfSome, OnErr, Result, Ok, Err}
+use Rattle.std.specs.Prelude.{◌⊎◌, Ok}
 use Rattle.capture_file.specs.declared.cpu_end.CpuEnd.{CpuEnd}
 use Rattle.capture_file.specs.declared.cpu_end.CpuEnd.TheVariants.{Damaged, Fault, Whole}
-use Rattle.frame_view.specs.declared.memory.Memory.{Memory}
 use Rattle.size_printing.specs.declared.size_reports.ReadFile.{ReadFile}
 use Rattle.size_printing.specs.declared.size_reports.SizeReport.{SizeReport}
 use Rattle.tap_outside.specs.Counts.{Rose}
 use Rattle.tap_outside.specs.Seen.{NoReadFailed, SinkSeen, StoreSeen}
 use Rattle.tap_running.specs.Captures.{fault_at}
 use Rattle.tap_running.specs.Prints.{IsLastLine, IsPrinted}
-use Rattle.tap_sizes.specs.Endings.{GivesUp, IsConcluded, IsCut, IsCutShort, IsFaultless, IsSizeSearched}
+use Rattle.tap_sizes.specs.Endings.{IsConcluded, IsFaultless, IsSizeSearched}
 use Rattle.tap_sizes.specs.Endings.{IsStopped, IsWorth, NoneCounted, Tells, status_with}
 use Rattle.tap_sizes.specs.Readings.{file_faults}
 use Rattle.tap_sizes.specs.SizeFindings.{IsSizeFound, report_in, status_by_end, status_of, status_of_files}
@@ -23,7 +22,7 @@ use Rattle.tap_sizes.specs.declared.size_findings.SizeFinding.{SizeFinding}
 use Rattle.tap_sizes.specs.declared.size_findings.SizeFinding.TheVariants as finding
 use Rattle.tap_sizes.specs.inside.SizeAnswers.{IsAnswer}
 use Rattle.tap_sizes.proofs.Completed.{complete_of}
-use Rattle.tap_sizes.proofs.Clean.{clean_asked, clean_bad_filter, clean_bad_reader, found_closed}
+use Rattle.tap_sizes.proofs.Clean.{clean_asked, clean_bad_filter, clean_bad_reader, clean_bad_setup, found_closed}
 
 -- ---- the report
 
@@ -130,7 +129,8 @@ no_read_failed a b None (finding.TooLong files) h other = absurd h
 no_read_failed a b None (finding.Sized kind unit report) h other = absurd h
 no_read_failed a b (Some named) finding.NoNames h other = absurd h
 no_read_failed a b (Some named) finding.Unread h other = absurd (other refl)
-no_read_failed a b (Some named) (finding.BadSetup error) h other = h.texts.unfailed
+no_read_failed a b (Some named) (finding.BadSetup error) h other =
+    (clean_bad_setup a b named error h).unfailed
 no_read_failed a b (Some named) (finding.BadFilter error) h other =
     (clean_bad_filter a b named error h).unfailed
 no_read_failed a b (Some named) (finding.BadReader error) h other =

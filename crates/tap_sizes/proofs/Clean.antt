@@ -7,6 +7,8 @@ use Rattle.reader_pace.specs.declared.paces.MoreFile.{MoreFile}
 use Rattle.reader_pace.specs.declared.readers.PacedReader.{PacedReader}
 use Rattle.setup_text.specs.declared.cpu_setups.CpuSetup.{CpuSetup}
 use Rattle.setup_text.specs.declared.jobs.Job.{Job}
+use Rattle.setup_text.specs.declared.setup_error.SetupError.{SetupError}
+use Rattle.setup_text.specs.declared.setups.Setup.{Setup}
 use Rattle.setup_text.specs.declared.text_error.TextError.{TextError}
 use Rattle.frame_deals.specs.Dealings.{Dealing, first_dealing}
 use Rattle.size_printing.specs.declared.size_reports.ReadFile.{ReadFile}
@@ -21,8 +23,8 @@ use Rattle.tap_running.specs.Counts.{IsCounted}
 use Rattle.tap_running.proofs.Counted.{counts_none, counts_then}
 use Rattle.tap_sizes.specs.Readings.{AreAllRead, AreCpusRead, AreFilesTaken, file_faults, files_in, more_of}
 use Rattle.tap_sizes.specs.SizeFindings.{IsSizeFound}
-use Rattle.tap_sizes.specs.SizeTexts.{CantReadText, HasBadFilter, HasBadReader}
-use Rattle.tap_sizes.specs.SizeTexts.{IsJobRead, IsProgramRead, IsSizeAsked}
+use Rattle.tap_sizes.specs.SizeTexts.{CantReadText, HasBadFilter, HasBadReader, HasBadSetup}
+use Rattle.tap_sizes.specs.SizeTexts.{IsJobRead, IsProgramRead, IsSetupRead, IsSizeAsked}
 use Rattle.tap_sizes.specs.SizeWords.{SizeNamed}
 use Rattle.tap_sizes.specs.declared.size_findings.SizeFinding.{SizeFinding}
 use Rattle.tap_sizes.specs.declared.size_findings.SizeFinding.TheVariants as finding
@@ -52,29 +54,37 @@ clean_program a b None (Some program) is = absurd is
 clean_program a b (Some name) None is = absurd is
 clean_program a b (Some name) (Some program) is = clean_texts a b _ is.texts
 
-pub clean_job : (a b : StoreSeen) (named : SizeNamed) (job : Job) → IsJobRead a b named job
-    → RanOut a b
-clean_job a b named job is =
-    clean_then a is.between b (clean_texts a is.between _ is.setup_is.texts)
+pub clean_setup : (a b : StoreSeen) (named : SizeNamed) (text : List ℕ) (setup : Setup)
+    → IsSetupRead a b named text setup → RanOut a b
+clean_setup a b named text setup is =
+    clean_then a is.between b (clean_texts a is.between _ is.reader_is.texts)
+    (clean_texts is.between b _ is.setup_is.texts)
+
+pub clean_job : (a b : StoreSeen) (named : SizeNamed) (text : List ℕ) (job : Job)
+    → IsJobRead a b named text job → RanOut a b
+clean_job a b named text job is =
+    clean_then a is.between b (clean_setup a is.between named text job.setup is.setup_is)
     (clean_program is.between b job.setup.filter job.program is.program_is)
 
 pub clean_asked : (a b : StoreSeen) (named : SizeNamed) (job : Job) (reader : PacedReader)
     → IsSizeAsked a b named job reader → RanOut a b
-clean_asked a b named job reader is =
-    clean_then a is.between b (clean_job a is.between named job is.job_is)
-    (clean_texts is.between b _ is.reader_is.texts)
+clean_asked a b named job reader is = clean_job a b named is.text job is.job_is
+
+pub clean_bad_setup : (a b : StoreSeen) (named : SizeNamed) (error : SetupError)
+    → HasBadSetup a b named error → RanOut a b
+clean_bad_setup a b named error is =
+    clean_then a is.between b (clean_texts a is.between _ is.reader_is.texts)
+    (clean_texts is.between b _ is.refused.texts)
 
 pub clean_bad_filter : (a b : StoreSeen) (named : SizeNamed) (error : TextError)
     → HasBadFilter a b named error → RanOut a b
 clean_bad_filter a b named error is =
-    clean_then a is.between b (clean_texts a is.between _ is.setup_is.texts)
+    clean_then a is.between b (clean_setup a is.between named is.text is.setup is.setup_is)
     (clean_texts is.between b _ is.refused.texts)
 
 pub clean_bad_reader : (a b : StoreSeen) (named : SizeNamed) (error : ReaderError)
     → HasBadReader a b named error → RanOut a b
-clean_bad_reader a b named error is =
-    clean_then a is.between b (clean_job a is.between named is.job is.job_is)
-    (clean_texts is.between b _ is.refused.texts)
+clean_bad_reader a b named error is = clean_job a b named is.text is.job is.job_is
 
 -- ---- a text that can't be read
 
@@ -87,107 +97,110 @@ later_rose : (a b c : StoreSeen) (name : List ℕ) → RanOut a b → CantRead b
 later_rose a b c name clean unread =
     let later = clean.unfailed.only.later in let rose = unread.rose in omega (arith, later, rose)
 
+later_closed : (a b c : StoreSeen) (name : List ℕ) → RanOut a b → CantRead b c name
+    → NoneOpen a.sources c.sources
+later_closed a b c name clean unread =
+    none_open_then a.sources b.sources c.sources clean.closed (unread_open b c name unread)
+
 pub unread_closed : (a b : StoreSeen) (named : SizeNamed) → CantReadText a b named
     → NoneOpen a.sources b.sources
-unread_closed a b named (inl setup) = unread_open a b named.setup setup
-unread_closed a b named (inr (inl filter)) =
-    none_open_then a.sources filter.between.sources b.sources
-    (clean_texts a filter.between _ filter.setup_is.texts).closed
-    (unread_open filter.between b filter.name filter.unread)
-unread_closed a b named (inr (inr reader)) =
-    none_open_then a.sources reader.between.sources b.sources
-    (clean_job a reader.between named reader.job reader.job_is).closed
-    (unread_open reader.between b named.reader reader.unread)
+unread_closed a b named (inl reader) = unread_open a b named.reader reader
+unread_closed a b named (inr (inl setup)) =
+    later_closed a setup.between b named.setup (clean_texts a setup.between _ setup.reader_is.texts)
+    setup.unread
+unread_closed a b named (inr (inr filter)) =
+    later_closed a filter.between b filter.name
+    (clean_setup a filter.between named filter.text filter.setup filter.setup_is) filter.unread
 
 pub unread_rose : (a b : StoreSeen) (named : SizeNamed) → CantReadText a b named
     → RoseBy 1 a.read_faults b.read_faults
-unread_rose a b named (inl setup) = setup.rose
-unread_rose a b named (inr (inl filter)) =
-    later_rose a filter.between b filter.name (clean_texts a filter.between _ filter.setup_is.texts)
-    filter.unread
-unread_rose a b named (inr (inr reader)) =
-    later_rose a reader.between b named.reader
-    (clean_job a reader.between named reader.job reader.job_is) reader.unread
+unread_rose a b named (inl reader) = reader.rose
+unread_rose a b named (inr (inl setup)) =
+    later_rose a setup.between b named.setup (clean_texts a setup.between _ setup.reader_is.texts)
+    setup.unread
+unread_rose a b named (inr (inr filter)) =
+    later_rose a filter.between b filter.name
+    (clean_setup a filter.between named filter.text filter.setup filter.setup_is) filter.unread
 
 -- ---- the captures
 
-files_closed : (a b : StoreSeen) (job : Job) (cpu : ℕ) (names all : List (List ℕ))
+files_closed : (a b : StoreSeen) (job : Job) (room cpu : ℕ) (names all : List (List ℕ))
     (files : List ReadFile) (before after : Dealing)
-    → AreFilesTaken a b job cpu names all files before after → NoneOpen a.sources b.sources
-files_closed a b job cpu [] [] [] before after are =
+    → AreFilesTaken a b job room cpu names all files before after → NoneOpen a.sources b.sources
+files_closed a b job room cpu [] [] [] before after are =
     none_open_same a.sources b.sources (ap (λ (s : StoreSeen). s.sources) are.0)
-files_closed a b job cpu [] [] (f ∷ files) before after are = absurd are
-files_closed a b job cpu [] (x ∷ all) files before after are = absurd are
-files_closed a b job cpu (n ∷ names) [] files before after are = absurd are
-files_closed a b job cpu (n ∷ names) (x ∷ all) [] before after are = absurd are
-files_closed a b job cpu (n ∷ names) (x ∷ all) (f ∷ files) before after are =
+files_closed a b job room cpu [] [] (f ∷ files) before after are = absurd are
+files_closed a b job room cpu [] (x ∷ all) files before after are = absurd are
+files_closed a b job room cpu (n ∷ names) [] files before after are = absurd are
+files_closed a b job room cpu (n ∷ names) (x ∷ all) [] before after are = absurd are
+files_closed a b job room cpu (n ∷ names) (x ∷ all) (f ∷ files) before after are =
     none_open_then a.sources are.0.sources b.sources
     (none_open a.sources are.0.sources _ are.2.file_is.given)
-    (files_closed are.0 b job cpu names all files are.1 after are.3)
+    (files_closed are.0 b job room cpu names all files are.1 after are.3)
 
-cpus_closed : (a b : StoreSeen) (job : Job) (more : List MoreFile) (cpu : ℕ) (setups : List CpuSetup)
+cpus_closed : (a b : StoreSeen) (job : Job) (room : ℕ) (more : List MoreFile) (cpu : ℕ) (setups : List CpuSetup)
     (all : List (List (List ℕ))) (lists : List (List ReadFile)) (deals : List Dealing)
-    → AreCpusRead a b job more cpu setups all lists deals → NoneOpen a.sources b.sources
-cpus_closed a b job more cpu [] [] [] [] are =
+    → AreCpusRead a b job room more cpu setups all lists deals → NoneOpen a.sources b.sources
+cpus_closed a b job room more cpu [] [] [] [] are =
     none_open_same a.sources b.sources (ap (λ (s : StoreSeen). s.sources) are)
-cpus_closed a b job more cpu [] [] [] (d ∷ deals) are = absurd are
-cpus_closed a b job more cpu [] [] (f ∷ lists) deals are = absurd are
-cpus_closed a b job more cpu [] (x ∷ all) lists deals are = absurd are
-cpus_closed a b job more cpu (s ∷ setups) [] lists deals are = absurd are
-cpus_closed a b job more cpu (s ∷ setups) (x ∷ all) [] deals are = absurd are
-cpus_closed a b job more cpu (s ∷ setups) (x ∷ all) (f ∷ lists) [] are = absurd are
-cpus_closed a b job more cpu (s ∷ setups) (x ∷ all) (f ∷ lists) (d ∷ deals) are =
+cpus_closed a b job room more cpu [] [] [] (d ∷ deals) are = absurd are
+cpus_closed a b job room more cpu [] [] (f ∷ lists) deals are = absurd are
+cpus_closed a b job room more cpu [] (x ∷ all) lists deals are = absurd are
+cpus_closed a b job room more cpu (s ∷ setups) [] lists deals are = absurd are
+cpus_closed a b job room more cpu (s ∷ setups) (x ∷ all) [] deals are = absurd are
+cpus_closed a b job room more cpu (s ∷ setups) (x ∷ all) (f ∷ lists) [] are = absurd are
+cpus_closed a b job room more cpu (s ∷ setups) (x ∷ all) (f ∷ lists) (d ∷ deals) are =
     none_open_then a.sources are.0.sources b.sources
-    (files_closed a are.0 job cpu (s.file ∷ more_of cpu more) x f (first_dealing cpu job.setup.plan) d are.1)
-    (cpus_closed are.0 b job more (cpu + 1) setups all lists deals are.2)
+    (files_closed a are.0 job room cpu (s.file ∷ more_of cpu more) x f (first_dealing cpu job.setup.plan) d are.1)
+    (cpus_closed are.0 b job room more (cpu + 1) setups all lists deals are.2)
 
-pub all_closed : (a b : StoreSeen) (job : Job) (more : List MoreFile) (all : List (List (List ℕ)))
-    (files : List ReadFile) (deals : List Dealing) → AreAllRead a b job more all files deals
+pub all_closed : (a b : StoreSeen) (job : Job) (room : ℕ) (more : List MoreFile) (all : List (List (List ℕ)))
+    (files : List ReadFile) (deals : List Dealing) → AreAllRead a b job room more all files deals
     → NoneOpen a.sources b.sources
-all_closed a b job more all files deals are =
-    cpus_closed a b job more 0 job.setup.cpus all are.by_cpu deals are.read_is
+all_closed a b job room more all files deals are =
+    cpus_closed a b job room more 0 job.setup.cpus all are.by_cpu deals are.read_is
 
 pub faults_both : (files others : List ReadFile)
     → file_faults (files ++ others) ≡ file_faults files + file_faults others
 faults_both [] others = omega arith
 faults_both (file ∷ files) others = let rest = faults_both files others in omega (arith, rest)
 
-files_counted : (a b : StoreSeen) (job : Job) (cpu : ℕ) (names all : List (List ℕ))
+files_counted : (a b : StoreSeen) (job : Job) (room cpu : ℕ) (names all : List (List ℕ))
     (files : List ReadFile) (before after : Dealing)
-    → AreFilesTaken a b job cpu names all files before after → IsCounted a b (file_faults files)
-files_counted a b job cpu [] [] [] before after are =
+    → AreFilesTaken a b job room cpu names all files before after → IsCounted a b (file_faults files)
+files_counted a b job room cpu [] [] [] before after are =
     subst (λ (s : StoreSeen). IsCounted a s 0) (sym are.0) (counts_none 0 a refl)
-files_counted a b job cpu [] [] (f ∷ files) before after are = absurd are
-files_counted a b job cpu [] (x ∷ all) files before after are = absurd are
-files_counted a b job cpu (n ∷ names) [] files before after are = absurd are
-files_counted a b job cpu (n ∷ names) (x ∷ all) [] before after are = absurd are
-files_counted a b job cpu (n ∷ names) (x ∷ all) (f ∷ files) before after are =
+files_counted a b job room cpu [] [] (f ∷ files) before after are = absurd are
+files_counted a b job room cpu [] (x ∷ all) files before after are = absurd are
+files_counted a b job room cpu (n ∷ names) [] files before after are = absurd are
+files_counted a b job room cpu (n ∷ names) (x ∷ all) [] before after are = absurd are
+files_counted a b job room cpu (n ∷ names) (x ∷ all) (f ∷ files) before after are =
     counts_then (fault_at f.end) (file_faults files) a are.0 b are.2.file_is.counted
-    (files_counted are.0 b job cpu names all files are.1 after are.3)
+    (files_counted are.0 b job room cpu names all files are.1 after are.3)
 
-cpus_counted : (a b : StoreSeen) (job : Job) (more : List MoreFile) (cpu : ℕ) (setups : List CpuSetup)
+cpus_counted : (a b : StoreSeen) (job : Job) (room : ℕ) (more : List MoreFile) (cpu : ℕ) (setups : List CpuSetup)
     (all : List (List (List ℕ))) (lists : List (List ReadFile)) (deals : List Dealing)
-    → AreCpusRead a b job more cpu setups all lists deals → IsCounted a b (file_faults (files_in lists))
-cpus_counted a b job more cpu [] [] [] [] are =
+    → AreCpusRead a b job room more cpu setups all lists deals → IsCounted a b (file_faults (files_in lists))
+cpus_counted a b job room more cpu [] [] [] [] are =
     subst (λ (s : StoreSeen). IsCounted a s 0) (sym are) (counts_none 0 a refl)
-cpus_counted a b job more cpu [] [] [] (d ∷ deals) are = absurd are
-cpus_counted a b job more cpu [] [] (f ∷ lists) deals are = absurd are
-cpus_counted a b job more cpu [] (x ∷ all) lists deals are = absurd are
-cpus_counted a b job more cpu (s ∷ setups) [] lists deals are = absurd are
-cpus_counted a b job more cpu (s ∷ setups) (x ∷ all) [] deals are = absurd are
-cpus_counted a b job more cpu (s ∷ setups) (x ∷ all) (f ∷ lists) [] are = absurd are
-cpus_counted a b job more cpu (s ∷ setups) (x ∷ all) (f ∷ lists) (d ∷ deals) are =
+cpus_counted a b job room more cpu [] [] [] (d ∷ deals) are = absurd are
+cpus_counted a b job room more cpu [] [] (f ∷ lists) deals are = absurd are
+cpus_counted a b job room more cpu [] (x ∷ all) lists deals are = absurd are
+cpus_counted a b job room more cpu (s ∷ setups) [] lists deals are = absurd are
+cpus_counted a b job room more cpu (s ∷ setups) (x ∷ all) [] deals are = absurd are
+cpus_counted a b job room more cpu (s ∷ setups) (x ∷ all) (f ∷ lists) [] are = absurd are
+cpus_counted a b job room more cpu (s ∷ setups) (x ∷ all) (f ∷ lists) (d ∷ deals) are =
     subst (λ (n : ℕ). IsCounted a b n) (sym (faults_both f (files_in lists)))
     (counts_then (file_faults f) (file_faults (files_in lists)) a are.0 b
-    (files_counted a are.0 job cpu (s.file ∷ more_of cpu more) x f (first_dealing cpu job.setup.plan) d are.1)
-    (cpus_counted are.0 b job more (cpu + 1) setups all lists deals are.2))
+    (files_counted a are.0 job room cpu (s.file ∷ more_of cpu more) x f (first_dealing cpu job.setup.plan) d are.1)
+    (cpus_counted are.0 b job room more (cpu + 1) setups all lists deals are.2))
 
-pub all_counted : (a b : StoreSeen) (job : Job) (more : List MoreFile) (all : List (List (List ℕ)))
-    (files : List ReadFile) (deals : List Dealing) → AreAllRead a b job more all files deals
+pub all_counted : (a b : StoreSeen) (job : Job) (room : ℕ) (more : List MoreFile) (all : List (List (List ℕ)))
+    (files : List ReadFile) (deals : List Dealing) → AreAllRead a b job room more all files deals
     → IsCounted a b (file_faults files)
-all_counted a b job more all files deals are =
+all_counted a b job room more all files deals are =
     subst (λ (fs : List ReadFile). IsCounted a b (file_faults fs)) (sym are.files_are)
-    (cpus_counted a b job more 0 job.setup.cpus all are.by_cpu deals are.read_is)
+    (cpus_counted a b job room more 0 job.setup.cpus all are.by_cpu deals are.read_is)
 
 -- ---- what is found
 
@@ -203,7 +216,7 @@ found_closed a b None (finding.TooLong files) h = absurd h
 found_closed a b None (finding.Sized kind unit report) h = absurd h
 found_closed a b (Some named) finding.NoNames h = absurd h
 found_closed a b (Some named) finding.Unread h = unread_closed a b named h
-found_closed a b (Some named) (finding.BadSetup error) h = (clean_texts a b _ h.texts).closed
+found_closed a b (Some named) (finding.BadSetup error) h = (clean_bad_setup a b named error h).closed
 found_closed a b (Some named) (finding.BadFilter error) h = (clean_bad_filter a b named error h).closed
 found_closed a b (Some named) (finding.BadReader error) h =
     (clean_bad_reader a b named error h).closed
@@ -213,9 +226,9 @@ found_closed a b (Some named) (finding.TooLong files) h =
     let read = h.0.read_is in
     none_open_then a.sources read.between.sources b.sources
     (clean_asked a read.between named h.0.job h.0.reader read.asked).closed
-    (all_closed read.between b h.0.job h.0.reader.more h.0.bytes files read.deals read.read_is)
+    (all_closed read.between b h.0.job _ h.0.reader.more h.0.bytes files read.deals read.read_is)
 found_closed a b (Some named) (finding.Sized kind unit report) h =
     let read = h.0.read_is in
     none_open_then a.sources read.between.sources b.sources
     (clean_asked a read.between named h.0.job h.0.reader read.asked).closed
-    (all_closed read.between b h.0.job h.0.reader.more h.0.bytes report.files read.deals read.read_is)
+    (all_closed read.between b h.0.job _ h.0.reader.more h.0.bytes report.files read.deals read.read_is)

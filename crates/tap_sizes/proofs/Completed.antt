@@ -1,7 +1,6 @@
 -- If the texts and the captures are sound and nothing fails, the status is fine.
 use Rattle.std.proofs.Common.{◌≡◌, ℕ, ◌+◌, Bool, true, false, List, [], ◌∷◌, ◌++◌, map, Option, None, Some}
 use Rattle.std.proofs.Common.{inl, refl, sym, ap, ◌∙◌, subst, arith}
-use Rattle.std.specs.Prelude.{Ok, Err}
 use Rattle.std.specs.List.{AllByRecursion}
 use Rattle.capture_file.specs.declared.cpu_end.CpuEnd.{CpuEnd}
 use Rattle.capture_file.specs.declared.cpu_end.CpuEnd.TheVariants.{Damaged, Fault, Whole}
@@ -9,32 +8,26 @@ use Rattle.deal_rules.specs.Files.{times_by}
 use Rattle.frame_deals.specs.Dealings.{Dealing, first_dealing}
 use Rattle.reader_pace.specs.Timelines.{end_of}
 use Rattle.reader_pace.specs.declared.paces.MoreFile.{MoreFile}
-use Rattle.reader_pace.specs.declared.reader_error.ReaderError.{ReaderError}
 use Rattle.reader_pace.specs.declared.readers.PacedReader.{PacedReader}
-use Rattle.setup_text.specs.Filters.{filter_of}
-use Rattle.setup_text.specs.declared.commands.Command.TheVariants.{Replay}
 use Rattle.setup_text.specs.declared.cpu_setups.CpuSetup.{CpuSetup}
 use Rattle.setup_text.specs.declared.jobs.Job.{Job}
 use Rattle.setup_text.specs.declared.setups.Setup.{Setup}
-use Rattle.setup_text.specs.declared.text_error.TextError.{TextError}
 use Rattle.size_printing.specs.declared.size_reports.ReadFile.{ReadFile}
 use Rattle.tap_outside.proofs.Kept.{held_kept}
 use Rattle.tap_outside.specs.Contents.{Contents}
 use Rattle.tap_outside.specs.Counts.{RoseBy}
 use Rattle.tap_outside.specs.Seen.{SinkSeen, StoreSeen}
-use Rattle.tap_reading.specs.Readers.{Says, setup_for}
 use Rattle.tap_running.specs.Captures.{IsCapture}
 use Rattle.tap_running.specs.Prints.{IsPrinted}
-use Rattle.tap_running.specs.Texts.{IsSoundFilter, text_in}
+use Rattle.tap_running.specs.Texts.{text_in}
 use Rattle.tap_running.proofs.Stores.{none_rose}
-use Rattle.tap_running.proofs.TextLimits.{filters, not_both, same_value, says_held, setups, sound_filter}
 use Rattle.tap_running.proofs.Wholes.{none_faults, whole_end}
 use Rattle.tap_sizes.specs.Answers.{AreCapturesRead}
 use Rattle.tap_sizes.specs.Complete.{IsComplete, IsSoundSize, IsWholeFile, files_held}
 use Rattle.tap_sizes.specs.Endings.{Tells, status_with}
 use Rattle.tap_sizes.specs.Readings.{AreCpusRead, AreFilesTaken, file_faults, files_in, more_of}
 use Rattle.tap_sizes.specs.SizeFindings.{IsSizeFound, status_by_end, status_of, status_of_files}
-use Rattle.tap_sizes.specs.SizeTexts.{HasBadFilter, HasBadReader, IsJobRead, IsSetupRead, IsSizeAsked, reader_for}
+use Rattle.tap_sizes.specs.SizeTexts.{IsSizeAsked}
 use Rattle.tap_sizes.specs.SizeWords.{SizeNamed}
 use Rattle.tap_sizes.specs.Tried.{unanswered_by}
 use Rattle.tap_sizes.specs.declared.outcomes.SizeOutcome.{SizeOutcome}
@@ -42,69 +35,8 @@ use Rattle.tap_sizes.specs.declared.outcomes.SizeStatus.{SizeStatus}
 use Rattle.tap_sizes.specs.declared.outcomes.SizeStatus.TheVariants as statuses
 use Rattle.tap_sizes.specs.declared.size_findings.SizeFinding.{SizeFinding}
 use Rattle.tap_sizes.specs.declared.size_findings.SizeFinding.TheVariants as finding
-use Rattle.tap_sizes.proofs.Clean.{clean_asked, clean_job, clean_texts, faults_both, unread_rose}
-use Rattle.tap_sizes.proofs.ReaderLimits.{readers}
-
--- ---- texts that are accepted aren't refused
-
--- the setup is the one that the store holds
-the_setup : (files : Contents) (named : SizeNamed) (sound : IsSoundSize files named)
-    (a b : StoreSeen) (setup : Setup) → a.held ≡ Some files → IsSetupRead a b named setup
-    → sound.setup ≡ setup
-the_setup files named sound a b setup held read =
-    same_value (setup_for Replay) files named.setup read.text sound.setup setup (setups Replay)
-    sound.setup_is
-    (subst (λ (o : Option Contents). Says (setup_for Replay) o named.setup read.text (Ok setup)) held
-    read.says)
-
-bad_filter : (files : Contents) (named : SizeNamed) (a b : StoreSeen) (error : TextError)
-    → a.held ≡ Some files → IsSoundSize files named → HasBadFilter a b named error → ⊥
-bad_filter files named a b error held sound h =
-    let kept : h.between.held ≡ Some files =
-    held_kept (clean_texts a h.between _ h.setup_is.texts).unfailed.only ∙ held in
-    sound_filter files h.setup.filter h.name error h.names
-    (subst (λ (s : Setup). IsSoundFilter files s.filter)
-    (the_setup files named sound a h.between h.setup held h.setup_is) sound.filter)
-    (says_held filter_of files h.name h.refused.text (Err error) filters
-    (subst (λ (o : Option Contents). Says filter_of o h.name h.refused.text (Err error)) kept
-    h.refused.says))
-
-job_setup : (files : Contents) (named : SizeNamed) (sound : IsSoundSize files named)
-    (a b : StoreSeen) (job : Job) → a.held ≡ Some files → IsJobRead a b named job
-    → sound.setup ≡ job.setup
-job_setup files named sound a b job held read =
-    the_setup files named sound a read.between job.setup held read.setup_is
-
-bad_reader : (files : Contents) (named : SizeNamed) (a b : StoreSeen) (error : ReaderError)
-    → a.held ≡ Some files → IsSoundSize files named → HasBadReader a b named error → ⊥
-bad_reader files named a b error held sound h =
-    let kept : h.between.held ≡ Some files =
-    held_kept (clean_job a h.between named h.job h.job_is).unfailed.only ∙ held in
-    not_both (reader_for h.job.setup) files named.reader h.refused.text sound.reader error
-    (readers h.job.setup)
-    (subst (λ (s : Setup). reader_for s (text_in files named.reader) ≡ Ok sound.reader)
-    (job_setup files named sound a h.between h.job held h.job_is) sound.reader_is)
-    (subst (λ (o : Option Contents). Says (reader_for h.job.setup) o named.reader h.refused.text
-    (Err error)) kept h.refused.says)
-
-asked_setup : (files : Contents) (named : SizeNamed) (sound : IsSoundSize files named)
-    (a b : StoreSeen) (job : Job) (reader : PacedReader) → a.held ≡ Some files
-    → IsSizeAsked a b named job reader → sound.setup ≡ job.setup
-asked_setup files named sound a b job reader held asked =
-    job_setup files named sound a asked.between job held asked.job_is
-
-asked_reader : (files : Contents) (named : SizeNamed) (sound : IsSoundSize files named)
-    (a b : StoreSeen) (job : Job) (reader : PacedReader) → a.held ≡ Some files
-    → IsSizeAsked a b named job reader → sound.reader ≡ reader
-asked_reader files named sound a b job reader held asked =
-    let kept : asked.between.held ≡ Some files =
-    held_kept (clean_job a asked.between named job asked.job_is).unfailed.only ∙ held in
-    same_value (reader_for job.setup) files named.reader asked.reader_is.text sound.reader reader
-    (readers job.setup)
-    (subst (λ (s : Setup). reader_for s (text_in files named.reader) ≡ Ok sound.reader)
-    (asked_setup files named sound a b job reader held asked) sound.reader_is)
-    (subst (λ (o : Option Contents). Says (reader_for job.setup) o named.reader
-    asked.reader_is.text (Ok reader)) kept asked.reader_is.says)
+use Rattle.tap_sizes.proofs.Clean.{clean_asked, faults_both, unread_rose}
+use Rattle.tap_sizes.proofs.HeldTexts.{asked_reader, asked_setup, bad_filter, bad_reader, bad_setup}
 
 some_none : {A : Type 0} (o : Option A) (x : A) → o ≡ None → o ≡ Some x → ⊥
 some_none None x e f = cc
@@ -143,36 +75,36 @@ two : {A : Type 0} (x y : A) (xs ys : List A) → x ≡ y → xs ≡ ys → x �
 two x y xs ys first rest = ap (λ z. z ∷ xs) first ∙ ap (λ zs. y ∷ zs) rest
 
 -- a store that was only read holds the same
-files_keep : (a b : StoreSeen) (job : Job) (cpu : ℕ) (names all : List (List ℕ)) (read : List ReadFile)
-    (before after : Dealing) → AreFilesTaken a b job cpu names all read before after → b.held ≡ a.held
-files_keep a b job cpu [] [] [] before after are = ap (λ (s : StoreSeen). s.held) are.0
-files_keep a b job cpu [] [] (f ∷ read) before after are = absurd are
-files_keep a b job cpu [] (x ∷ all) read before after are = absurd are
-files_keep a b job cpu (n ∷ names) [] read before after are = absurd are
-files_keep a b job cpu (n ∷ names) (x ∷ all) [] before after are = absurd are
-files_keep a b job cpu (n ∷ names) (x ∷ all) (f ∷ read) before after are =
-    files_keep are.0 b job cpu names all read are.1 after are.3
+files_keep : (a b : StoreSeen) (job : Job) (room cpu : ℕ) (names all : List (List ℕ)) (read : List ReadFile)
+    (before after : Dealing) → AreFilesTaken a b job room cpu names all read before after → b.held ≡ a.held
+files_keep a b job room cpu [] [] [] before after are = ap (λ (s : StoreSeen). s.held) are.0
+files_keep a b job room cpu [] [] (f ∷ read) before after are = absurd are
+files_keep a b job room cpu [] (x ∷ all) read before after are = absurd are
+files_keep a b job room cpu (n ∷ names) [] read before after are = absurd are
+files_keep a b job room cpu (n ∷ names) (x ∷ all) [] before after are = absurd are
+files_keep a b job room cpu (n ∷ names) (x ∷ all) (f ∷ read) before after are =
+    files_keep are.0 b job room cpu names all read are.1 after are.3
     ∙ held_kept are.2.file_is.only
 
-whole_files : (files : Contents) (a b : StoreSeen) (job : Job) (cpu : ℕ) (names all : List (List ℕ))
+whole_files : (files : Contents) (a b : StoreSeen) (job : Job) (room cpu : ℕ) (names all : List (List ℕ))
     (read : List ReadFile) (before after : Dealing)
-    → a.held ≡ Some files → AreFilesTaken a b job cpu names all read before after
+    → a.held ≡ Some files → AreFilesTaken a b job room cpu names all read before after
     → AllByRecursion IsWholeFile (map (text_in files) names)
     → file_faults read ≡ 0 → AreWholeFiles files names all read
-whole_files files a b job cpu [] [] [] before after held are whole none =
+whole_files files a b job room cpu [] [] [] before after held are whole none =
     record { bytes = refl; status = λ last. refl }
-whole_files files a b job cpu [] [] (f ∷ read) before after held are whole none = absurd are
-whole_files files a b job cpu [] (x ∷ all) read before after held are whole none = absurd are
-whole_files files a b job cpu (n ∷ names) [] read before after held are whole none = absurd are
-whole_files files a b job cpu (n ∷ names) (x ∷ all) [] before after held are whole none = absurd are
-whole_files files a b job cpu (n ∷ names) (x ∷ all) (f ∷ read) before after held are whole none =
+whole_files files a b job room cpu [] [] (f ∷ read) before after held are whole none = absurd are
+whole_files files a b job room cpu [] (x ∷ all) read before after held are whole none = absurd are
+whole_files files a b job room cpu (n ∷ names) [] read before after held are whole none = absurd are
+whole_files files a b job room cpu (n ∷ names) (x ∷ all) [] before after held are whole none = absurd are
+whole_files files a b job room cpu (n ∷ names) (x ∷ all) (f ∷ read) before after held are whole none =
     let one = are.2.file_is in
     let capture : IsCapture (Some files) n x f.end =
     subst (λ (o : Option Contents). IsCapture o n x f.end) held one.capture in
     let end : f.end ≡ Whole =
     whole_end (text_in files n) x capture.front.rest f.end capture.front.parts whole.0
     capture.damage capture.all (none_faults f.end (omega (arith, none))) in
-    let rest = whole_files files are.0 b job cpu names all read are.1 after
+    let rest = whole_files files are.0 b job room cpu names all read are.1 after
     (held_kept one.only ∙ held) are.3 whole.1 (omega (arith, none)) in
     record {
       bytes = two x (text_in files n) all (map (text_in files) names)
@@ -186,28 +118,28 @@ status_both [] others last = refl
 status_both (file ∷ read) others last =
     ap (λ (s : SizeStatus). status_by_end file.cpu file.end s) (status_both read others last)
 
-whole_reads : (files : Contents) (a b : StoreSeen) (job : Job) (more : List MoreFile) (cpu : ℕ)
+whole_reads : (files : Contents) (a b : StoreSeen) (job : Job) (room : ℕ) (more : List MoreFile) (cpu : ℕ)
     (setups : List CpuSetup) (all : List (List (List ℕ))) (read : List (List ReadFile))
     (deals : List Dealing)
-    → a.held ≡ Some files → AreCpusRead a b job more cpu setups all read deals
+    → a.held ≡ Some files → AreCpusRead a b job room more cpu setups all read deals
     → AllByRecursion (AllByRecursion IsWholeFile) (files_held files more cpu setups)
     → file_faults (files_in read) ≡ 0 → AreWholeReads files more cpu setups all (files_in read)
-whole_reads files a b job more cpu [] [] [] [] held are whole none =
+whole_reads files a b job room more cpu [] [] [] [] held are whole none =
     record { bytes = refl; status = λ last. refl }
-whole_reads files a b job more cpu [] [] [] (d ∷ deals) held are whole none = absurd are
-whole_reads files a b job more cpu [] [] (f ∷ read) deals held are whole none = absurd are
-whole_reads files a b job more cpu [] (x ∷ all) read deals held are whole none = absurd are
-whole_reads files a b job more cpu (s ∷ setups) [] read deals held are whole none = absurd are
-whole_reads files a b job more cpu (s ∷ setups) (x ∷ all) [] deals held are whole none = absurd are
-whole_reads files a b job more cpu (s ∷ setups) (x ∷ all) (f ∷ read) [] held are whole none = absurd are
-whole_reads files a b job more cpu (s ∷ setups) (x ∷ all) (f ∷ read) (d ∷ deals) held are whole none =
+whole_reads files a b job room more cpu [] [] [] (d ∷ deals) held are whole none = absurd are
+whole_reads files a b job room more cpu [] [] (f ∷ read) deals held are whole none = absurd are
+whole_reads files a b job room more cpu [] (x ∷ all) read deals held are whole none = absurd are
+whole_reads files a b job room more cpu (s ∷ setups) [] read deals held are whole none = absurd are
+whole_reads files a b job room more cpu (s ∷ setups) (x ∷ all) [] deals held are whole none = absurd are
+whole_reads files a b job room more cpu (s ∷ setups) (x ∷ all) (f ∷ read) [] held are whole none = absurd are
+whole_reads files a b job room more cpu (s ∷ setups) (x ∷ all) (f ∷ read) (d ∷ deals) held are whole none =
     let sum = faults_both f (files_in read) in
     let all_none : file_faults (f ++ files_in read) ≡ 0 = none in
     let names = s.file ∷ more_of cpu more in
-    let here = whole_files files a are.0 job cpu names x f (first_dealing cpu job.setup.plan) d held
+    let here = whole_files files a are.0 job room cpu names x f (first_dealing cpu job.setup.plan) d held
     are.1 whole.0 (omega (arith, all_none, sum)) in
-    let rest = whole_reads files are.0 b job more (cpu + 1) setups all read deals
-    (files_keep a are.0 job cpu names x f (first_dealing cpu job.setup.plan) d are.1 ∙ held) are.2
+    let rest = whole_reads files are.0 b job room more (cpu + 1) setups all read deals
+    (files_keep a are.0 job room cpu names x f (first_dealing cpu job.setup.plan) d are.1 ∙ held) are.2
     whole.1 (omega (arith, all_none, sum)) in
     record {
       bytes = two x (map (text_in files) names) all (files_held files more (cpu + 1) setups)
@@ -228,7 +160,7 @@ captures_whole files named sound a b job reader bytes read held are none =
     let short = ap file_faults all.files_are in
     subst (λ (fs : List ReadFile). AreWholeReads files reader.more 0 job.setup.cpus bytes fs)
     (sym all.files_are)
-    (whole_reads files are.between b job reader.more 0 job.setup.cpus bytes all.by_cpu are.deals
+    (whole_reads files are.between b job _ reader.more 0 job.setup.cpus bytes all.by_cpu are.deals
     (held_kept asked.unfailed.only ∙ held) all.read_is
     (subst (λ (s : Setup). AllByRecursion (AllByRecursion IsWholeFile)
     (files_held files reader.more 0 s.cpus)) setup
@@ -246,10 +178,7 @@ fine_found files named a b finding.NoNames held sound sane h = absurd h
 fine_found files named a b finding.Unread held sound sane h =
     absurd (sane (unread_rose a b named h))
 fine_found files named a b (finding.BadSetup error) held sound sane h =
-    absurd (not_both (setup_for Replay) files named.setup h.text sound.setup error (setups Replay)
-    sound.setup_is
-    (subst (λ (o : Option Contents). Says (setup_for Replay) o named.setup h.text (Err error)) held
-    h.says))
+    absurd (bad_setup files named a b error held sound h)
 fine_found files named a b (finding.BadFilter error) held sound sane h =
     absurd (bad_filter files named a b error held sound h)
 fine_found files named a b (finding.BadReader error) held sound sane h =

@@ -1,12 +1,13 @@
 -- The greatest of the rings that are needed, and the first phase and beginning at which it is.
-use Rattle.std.proofs.Common.{◌≡◌, ℕ, ◌+◌, ◌<◌, ◌≤◌, Bool, true, false, List, [], ◌∷◌, max, get_or, length}
-use Rattle.std.proofs.Common.{inl, inr, refl, sym, ap, ◌∙◌, subst, arith}
+use Rattle.std.proofs.Common.{◌≡◌, ℕ, ◌<◌, ◌≤◌, Bool, true, false, List, [], ◌∷◌, max, get_or, length}
+use Rattle.std.proofs.Common.{inl, inr, refl, sym, ◌∙◌, subst, arith}
 use Rattle.std.specs.Prelude.{◌⊎◌, ◌==◌, if◌then◌else◌, nat_lt}
-use Rattle.std.proofs.lemmas.Bool.{cases_lt, eqb-false, eqb-true, ltb-true, ltb-false}
+use Rattle.std.proofs.lemmas.Bool.{eqb-false, eqb-true, ltb-true, ltb-false}
 use Rattle.ring_sizes.specs.Phases.{IsEarlier, IsFirstMost}
 use Rattle.ring_sizes.specs.declared.paces.Arrival.{Arrival}
 use Rattle.ring_sizes.specs.declared.tries.Reached.{Reached}
 use Rattle.ring_sizes.specs.declared.tries.Tries.{Tries}
+use Rattle.tap_sizes.specs.declared.ring_parts.RingParts.{RingParts}
 use Rattle.tap_sizes.specs.inside.Passes.{AreFirstMost, Clocks, greatest_ring, is_greater, least_by, most_by}
 
 -- ---- the greatest of several
@@ -148,38 +149,38 @@ no_more x = omega arith
 three : (x y z : ℕ) → max (max x y) z ≡ max x (max y z)
 three x y z = omega arith
 
-greatest_first : (room : ℕ) (clocks : Clocks) (tries : Tries) (one : ℕ → ℕ → ℕ) (found : Reached)
+greatest_first : (parts : RingParts) (clocks : Clocks) (tries : Tries) (one : ℕ → ℕ → ℕ) (found : Reached)
     (all : List (List Arrival)) (rings : List Reached)
-    → IsFirstMost tries one found → AreFirstMost room clocks tries all rings
-    → IsFirstMost tries (λ phase from. max (one phase from) (most_by room clocks all phase from))
+    → IsFirstMost tries one found → AreFirstMost parts clocks tries all rings
+    → IsFirstMost tries (λ phase from. max (one phase from) (most_by parts clocks all phase from))
     (greatest_ring found rings)
-greatest_first room clocks tries one found [] [] is are =
+greatest_first parts clocks tries one found [] [] is are =
     numbers_as tries one _ found (λ phase from. no_more (one phase from)) is
-greatest_first room clocks tries one found [] (ring ∷ rings) is are = absurd are
-greatest_first room clocks tries one found (arrivals ∷ all) [] is are = absurd are
-greatest_first room clocks tries one found (arrivals ∷ all) (ring ∷ rings) is are =
-    let here = least_by room clocks arrivals in
+greatest_first parts clocks tries one found [] (ring ∷ rings) is are = absurd are
+greatest_first parts clocks tries one found (arrivals ∷ all) [] is are = absurd are
+greatest_first parts clocks tries one found (arrivals ∷ all) (ring ∷ rings) is are =
+    let here = least_by parts clocks arrivals in
     let next : Reached = if is_greater ring found then ring else found in
     numbers_as tries _ _ (greatest_ring next rings)
-    (λ phase from. three (one phase from) (here phase from) (most_by room clocks all phase from))
-    (greatest_first room clocks tries (λ phase from. max (one phase from) (here phase from)) next
+    (λ phase from. three (one phase from) (here phase from) (most_by parts clocks all phase from))
+    (greatest_first parts clocks tries (λ phase from. max (one phase from) (here phase from)) next
     all rings
     (greater_first tries one here ring found (is_greater ring found) refl is are.0) are.1)
 
 twice : (x y : ℕ) → max x (max x y) ≡ max x y
 twice x y = omega arith
 
-pub group_most : (room : ℕ) (clocks : Clocks) (tries : Tries) (all : List (List Arrival))
+pub group_most : (parts : RingParts) (clocks : Clocks) (tries : Tries) (all : List (List Arrival))
     (rings : List Reached) (first : Reached) → first ≡ get_or rings 0 first → 0 < length all
-    → AreFirstMost room clocks tries all rings
-    → IsFirstMost tries (most_by room clocks all) (greatest_ring first rings)
-group_most room clocks tries [] rings first is some are = absurd (omega (arith, some))
-group_most room clocks tries (arrivals ∷ all) [] first is some are = absurd are
-group_most room clocks tries (arrivals ∷ all) (ring ∷ rings) first is some are =
-    subst (λ (r : Reached). IsFirstMost tries (most_by room clocks (arrivals ∷ all))
+    → AreFirstMost parts clocks tries all rings
+    → IsFirstMost tries (most_by parts clocks all) (greatest_ring first rings)
+group_most parts clocks tries [] rings first is some are = absurd (omega (arith, some))
+group_most parts clocks tries (arrivals ∷ all) [] first is some are = absurd are
+group_most parts clocks tries (arrivals ∷ all) (ring ∷ rings) first is some are =
+    subst (λ (r : Reached). IsFirstMost tries (most_by parts clocks (arrivals ∷ all))
     (greatest_ring r (ring ∷ rings))) (sym is)
     (numbers_as tries _ _ (greatest_ring ring (ring ∷ rings))
-    (λ phase from. twice (least_by room clocks arrivals phase from)
-    (most_by room clocks all phase from))
-    (greatest_first room clocks tries (least_by room clocks arrivals) ring (arrivals ∷ all)
+    (λ phase from. twice (least_by parts clocks arrivals phase from)
+    (most_by parts clocks all phase from))
+    (greatest_first parts clocks tries (least_by parts clocks arrivals) ring (arrivals ∷ all)
     (ring ∷ rings) are.0 are))

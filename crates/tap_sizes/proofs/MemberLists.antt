@@ -7,63 +7,64 @@ use Rattle.ring_sizes.specs.declared.paces.Arrival.{Arrival}
 use Rattle.ring_sizes.specs.declared.phase_losses.DropRange.{DropRange}
 use Rattle.ring_sizes.specs.declared.tries.Reached.{Reached}
 use Rattle.ring_sizes.specs.declared.tries.Tries.{Tries}
+use Rattle.tap_sizes.specs.declared.ring_parts.RingParts.{RingParts}
 use Rattle.tap_sizes.specs.inside.Passes.{AreDropRanges, AreFirstMost, Clocks, IsDropRange}
 use Rattle.tap_sizes.specs.inside.Passes.{least_by}
 
-pub rings_count : (room : ℕ) (clocks : Clocks) (tries : Tries) (all : List (List Arrival))
-    (rings : List Reached) → AreFirstMost room clocks tries all rings → length rings ≡ length all
-rings_count room clocks tries [] [] are = refl
-rings_count room clocks tries [] (ring ∷ rings) are = absurd are
-rings_count room clocks tries (arrivals ∷ all) [] are = absurd are
-rings_count room clocks tries (arrivals ∷ all) (ring ∷ rings) are =
-    ap suc (rings_count room clocks tries all rings are.1)
+pub rings_count : (parts : RingParts) (clocks : Clocks) (tries : Tries) (all : List (List Arrival))
+    (rings : List Reached) → AreFirstMost parts clocks tries all rings → length rings ≡ length all
+rings_count parts clocks tries [] [] are = refl
+rings_count parts clocks tries [] (ring ∷ rings) are = absurd are
+rings_count parts clocks tries (arrivals ∷ all) [] are = absurd are
+rings_count parts clocks tries (arrivals ∷ all) (ring ∷ rings) are =
+    ap suc (rings_count parts clocks tries all rings are.1)
 
 same_ring : (one other : Reached) → ◌≡◌ {A = Option Reached} (Some one) (Some other) → one ≡ other
 same_ring one other e = cc
 
-pub ring_at : (room : ℕ) (clocks : Clocks) (tries : Tries) (all : List (List Arrival))
+pub ring_at : (parts : RingParts) (clocks : Clocks) (tries : Tries) (all : List (List Arrival))
     (rings : List Reached) (member : ℕ) (ring : Reached)
-    → AreFirstMost room clocks tries all rings → slice_get rings member ≡ Some ring
+    → AreFirstMost parts clocks tries all rings → slice_get rings member ≡ Some ring
     → (member < length all)
-    × IsFirstMost tries (least_by room clocks (get_or all member [])) ring
-ring_at room clocks tries [] [] member ring are is = cc
-ring_at room clocks tries [] (r ∷ rings) member ring are is = absurd are
-ring_at room clocks tries (arrivals ∷ all) [] member ring are is = absurd are
-ring_at room clocks tries (arrivals ∷ all) (r ∷ rings) zero ring are is = (
+    × IsFirstMost tries (least_by parts clocks (get_or all member [])) ring
+ring_at parts clocks tries [] [] member ring are is = cc
+ring_at parts clocks tries [] (r ∷ rings) member ring are is = absurd are
+ring_at parts clocks tries (arrivals ∷ all) [] member ring are is = absurd are
+ring_at parts clocks tries (arrivals ∷ all) (r ∷ rings) zero ring are is = (
   omega arith,
-  subst (λ (x : Reached). IsFirstMost tries (least_by room clocks arrivals) x)
+  subst (λ (x : Reached). IsFirstMost tries (least_by parts clocks arrivals) x)
       (same_ring r ring is) are.0,
 )
-ring_at room clocks tries (arrivals ∷ all) (r ∷ rings) (suc member) ring are is =
-    let rest = ring_at room clocks tries all rings member ring are.1 is in
+ring_at parts clocks tries (arrivals ∷ all) (r ∷ rings) (suc member) ring are is =
+    let rest = ring_at parts clocks tries all rings member ring are.1 is in
     let less = rest.0 in (omega (arith, less), rest.1)
 
-pub ranges_count : (room blocks : ℕ) (clocks : Clocks) (tries : Tries) (all : List (List Arrival))
-    (ranges : List DropRange) → AreDropRanges room blocks clocks tries all ranges
+pub ranges_count : (parts : RingParts) (clocks : Clocks) (tries : Tries) (all : List (List Arrival))
+    (ranges : List DropRange) → AreDropRanges parts clocks tries all ranges
     → length ranges ≡ length all
-ranges_count room blocks clocks tries [] [] are = refl
-ranges_count room blocks clocks tries [] (range ∷ ranges) are = absurd are
-ranges_count room blocks clocks tries (arrivals ∷ all) [] are = absurd are
-ranges_count room blocks clocks tries (arrivals ∷ all) (range ∷ ranges) are =
-    ap suc (ranges_count room blocks clocks tries all ranges are.1)
+ranges_count parts clocks tries [] [] are = refl
+ranges_count parts clocks tries [] (range ∷ ranges) are = absurd are
+ranges_count parts clocks tries (arrivals ∷ all) [] are = absurd are
+ranges_count parts clocks tries (arrivals ∷ all) (range ∷ ranges) are =
+    ap suc (ranges_count parts clocks tries all ranges are.1)
 
 same_range : (one other : DropRange) → ◌≡◌ {A = Option DropRange} (Some one) (Some other)
     → one ≡ other
 same_range one other e = cc
 
-pub range_at : (room blocks : ℕ) (clocks : Clocks) (tries : Tries) (all : List (List Arrival))
+pub range_at : (parts : RingParts) (clocks : Clocks) (tries : Tries) (all : List (List Arrival))
     (ranges : List DropRange) (member : ℕ) (range : DropRange)
-    → AreDropRanges room blocks clocks tries all ranges → slice_get ranges member ≡ Some range
+    → AreDropRanges parts clocks tries all ranges → slice_get ranges member ≡ Some range
     → (member < length all)
-    × IsDropRange room blocks clocks tries (get_or all member []) range
-range_at room blocks clocks tries [] [] member range are is = cc
-range_at room blocks clocks tries [] (r ∷ ranges) member range are is = absurd are
-range_at room blocks clocks tries (arrivals ∷ all) [] member range are is = absurd are
-range_at room blocks clocks tries (arrivals ∷ all) (r ∷ ranges) zero range are is = (
+    × IsDropRange parts clocks tries (get_or all member []) range
+range_at parts clocks tries [] [] member range are is = cc
+range_at parts clocks tries [] (r ∷ ranges) member range are is = absurd are
+range_at parts clocks tries (arrivals ∷ all) [] member range are is = absurd are
+range_at parts clocks tries (arrivals ∷ all) (r ∷ ranges) zero range are is = (
   omega arith,
-  subst (λ (x : DropRange). IsDropRange room blocks clocks tries arrivals x)
+  subst (λ (x : DropRange). IsDropRange parts clocks tries arrivals x)
       (same_range r range is) are.0,
 )
-range_at room blocks clocks tries (arrivals ∷ all) (r ∷ ranges) (suc member) range are is =
-    let rest = range_at room blocks clocks tries all ranges member range are.1 is in
+range_at parts clocks tries (arrivals ∷ all) (r ∷ ranges) (suc member) range are is =
+    let rest = range_at parts clocks tries all ranges member range are.1 is in
     let less = rest.0 in (omega (arith, less), rest.1)

@@ -1,8 +1,8 @@
 -- The rings of the members so far, and of one more; what members are given comes by the end.
-use Rattle.std.proofs.Common.{◌≡◌, ℕ, ◌+◌, ◌*◌, ◌<◌, ◌≤◌, ◌^◌, Bool, true, false, List, [], ◌∷◌, ◌++◌, max, get_or, length}
+use Rattle.std.proofs.Common.{◌≡◌, ℕ, ◌+◌, ◌<◌, ◌≤◌, ◌^◌, Bool, true, false, List, [], ◌∷◌, ◌++◌, max, get_or, length}
 use Rattle.std.proofs.Common.{take}
-use Rattle.std.proofs.Common.{Option, None, Some, refl, sym, ap, ◌∙◌, subst, arith}
-use Rattle.std.specs.Prelude.{All, ◌==◌, if◌then◌else◌, nat_le}
+use Rattle.std.proofs.Common.{Option, arith}
+use Rattle.std.specs.Prelude.{◌==◌, if◌then◌else◌, nat_le}
 use Rattle.std.specs.List.{AllByRecursion}
 use Rattle.std.proofs.lemmas.List.Elements.{All-from_recursion}
 use Rattle.deal_rules.specs.Marks.{arrival_by, arrival_if, arrivals_for, if_fed, mark_of, marked, ticket_after, waiting_after}
@@ -19,52 +19,53 @@ use Rattle.ring_sizes.specs.declared.tries.Tries.{Tries}
 use Rattle.setup_text.specs.declared.lines.Line.{Line}
 use Rattle.setup_text.specs.declared.lines.Line.TheVariants as line
 use Rattle.tap_running.proofs.Growing.{one_more}
+use Rattle.tap_sizes.specs.declared.ring_parts.RingParts.{RingParts}
 use Rattle.tap_sizes.specs.inside.Passes.{AreDropRanges, AreFirstMost, Clocks, IsDropRange, IsEarly, least_by}
 
 -- ---- one ring more
 
-first_then : (room : ℕ) (clocks : Clocks) (tries : Tries) (all : List (List Arrival))
+first_then : (parts : RingParts) (clocks : Clocks) (tries : Tries) (all : List (List Arrival))
     (rings : List Reached) (arrivals : List Arrival) (ring : Reached)
-    → AreFirstMost room clocks tries all rings
-    → IsFirstMost tries (least_by room clocks arrivals) ring
-    → AreFirstMost room clocks tries (all ++ arrivals ∷ []) (rings ++ ring ∷ [])
-first_then room clocks tries [] [] arrivals ring are is = (is, tt)
-first_then room clocks tries [] (r ∷ rings) arrivals ring are is = absurd are
-first_then room clocks tries (a ∷ all) [] arrivals ring are is = absurd are
-first_then room clocks tries (a ∷ all) (r ∷ rings) arrivals ring are is =
-    (are.0, first_then room clocks tries all rings arrivals ring are.1 is)
+    → AreFirstMost parts clocks tries all rings
+    → IsFirstMost tries (least_by parts clocks arrivals) ring
+    → AreFirstMost parts clocks tries (all ++ arrivals ∷ []) (rings ++ ring ∷ [])
+first_then parts clocks tries [] [] arrivals ring are is = (is, tt)
+first_then parts clocks tries [] (r ∷ rings) arrivals ring are is = absurd are
+first_then parts clocks tries (a ∷ all) [] arrivals ring are is = absurd are
+first_then parts clocks tries (a ∷ all) (r ∷ rings) arrivals ring are is =
+    (are.0, first_then parts clocks tries all rings arrivals ring are.1 is)
 
-pub one_ring_more : (room : ℕ) (clocks : Clocks) (tries : Tries) (all : List (List Arrival))
+pub one_ring_more : (parts : RingParts) (clocks : Clocks) (tries : Tries) (all : List (List Arrival))
     (rings more : List Reached) (at : ℕ) (arrivals : List Arrival) (ring : Reached)
     → arrivals ≡ get_or all at arrivals → at < length all → more ≡ rings ++ ring ∷ []
-    → AreFirstMost room clocks tries (take at all) rings
-    → IsFirstMost tries (least_by room clocks arrivals) ring
-    → AreFirstMost room clocks tries (take (at + 1) all) more
-one_ring_more room clocks tries all rings more at arrivals ring here less added are is =
+    → AreFirstMost parts clocks tries (take at all) rings
+    → IsFirstMost tries (least_by parts clocks arrivals) ring
+    → AreFirstMost parts clocks tries (take (at + 1) all) more
+one_ring_more parts clocks tries all rings more at arrivals ring here less added are is =
     rw (one_more all at arrivals here less, added)
-    (first_then room clocks tries (take at all) rings arrivals ring are is)
+    (first_then parts clocks tries (take at all) rings arrivals ring are is)
 
-ranges_then : (room blocks : ℕ) (clocks : Clocks) (tries : Tries) (all : List (List Arrival))
+ranges_then : (parts : RingParts) (clocks : Clocks) (tries : Tries) (all : List (List Arrival))
     (ranges : List DropRange) (arrivals : List Arrival) (range : DropRange)
-    → AreDropRanges room blocks clocks tries all ranges
-    → IsDropRange room blocks clocks tries arrivals range
-    → AreDropRanges room blocks clocks tries (all ++ arrivals ∷ []) (ranges ++ range ∷ [])
-ranges_then room blocks clocks tries [] [] arrivals range are is = (is, tt)
-ranges_then room blocks clocks tries [] (r ∷ ranges) arrivals range are is = absurd are
-ranges_then room blocks clocks tries (a ∷ all) [] arrivals range are is = absurd are
-ranges_then room blocks clocks tries (a ∷ all) (r ∷ ranges) arrivals range are is =
-    (are.0, ranges_then room blocks clocks tries all ranges arrivals range are.1 is)
+    → AreDropRanges parts clocks tries all ranges
+    → IsDropRange parts clocks tries arrivals range
+    → AreDropRanges parts clocks tries (all ++ arrivals ∷ []) (ranges ++ range ∷ [])
+ranges_then parts clocks tries [] [] arrivals range are is = (is, tt)
+ranges_then parts clocks tries [] (r ∷ ranges) arrivals range are is = absurd are
+ranges_then parts clocks tries (a ∷ all) [] arrivals range are is = absurd are
+ranges_then parts clocks tries (a ∷ all) (r ∷ ranges) arrivals range are is =
+    (are.0, ranges_then parts clocks tries all ranges arrivals range are.1 is)
 
-pub one_range_more : (room blocks : ℕ) (clocks : Clocks) (tries : Tries)
+pub one_range_more : (parts : RingParts) (clocks : Clocks) (tries : Tries)
     (all : List (List Arrival)) (ranges more : List DropRange) (at : ℕ) (arrivals : List Arrival)
     (range : DropRange)
     → arrivals ≡ get_or all at arrivals → at < length all → more ≡ ranges ++ range ∷ []
-    → AreDropRanges room blocks clocks tries (take at all) ranges
-    → IsDropRange room blocks clocks tries arrivals range
-    → AreDropRanges room blocks clocks tries (take (at + 1) all) more
-one_range_more room blocks clocks tries all ranges more at arrivals range here less added are is =
+    → AreDropRanges parts clocks tries (take at all) ranges
+    → IsDropRange parts clocks tries arrivals range
+    → AreDropRanges parts clocks tries (take (at + 1) all) more
+one_range_more parts clocks tries all ranges more at arrivals range here less added are is =
     rw (one_more all at arrivals here less, added)
-    (ranges_then room blocks clocks tries (take at all) ranges arrivals range are is)
+    (ranges_then parts clocks tries (take at all) ranges arrivals range are is)
 
 -- ---- moments by the end
 

@@ -3,48 +3,69 @@ use Rattle.std.proofs.Common.{◌≡◌, ℕ, zero, suc, ◌+◌, ◌<◌, ◌�
 use Rattle.std.proofs.Common.{refl, sym, ap, ◌∙◌, subst, arith, get_or}
 use Rattle.deal_rules.specs.Files.{times_by}
 use Rattle.fanout_group.specs.Rules.{rolls_over}
-use Rattle.pace_laws.specs.LeastRings.{AreFewestDrops, AreMostDrops, IsLeastOfGroup, IsLeastRing, drops_at}
-use Rattle.pace_laws.specs.LeastRings.{greatest_of, group_least_at, least_at}
+use Rattle.pace_laws.specs.LeastRings.{greatest_of}
 use Rattle.pace_laws.specs.Paces.{stalls_of}
 use Rattle.pace_laws.specs.Sizings.{Sizing, given_to}
 use Rattle.reader_pace.specs.Timelines.{end_of}
 use Rattle.reader_pace.specs.declared.readers.PacedReader.{PacedReader}
-use Rattle.ring_sizes.specs.Phases.{IsFirstFewest, IsFirstMost}
+use Rattle.ring_sizes.specs.Phases.{IsFirstFewest, IsFirstMost, begun}
 use Rattle.ring_sizes.specs.declared.paces.Arrival.{Arrival}
 use Rattle.ring_sizes.specs.declared.paces.Timing.{Timing}
 use Rattle.ring_sizes.specs.declared.tries.Reached.{Reached}
 use Rattle.ring_sizes.specs.declared.tries.Tries.{Tries}
+use Rattle.run_reports.specs.declared.ring_kind.RingKind.{RingKind}
 use Rattle.setup_text.specs.declared.jobs.Job.{Job}
 use Rattle.tap_sizes.specs.Answers.{sizing_by}
+use Rattle.tap_sizes.specs.RingParts.{AreFewestOf, AreMostOf, IsGroupLeastOf, IsLeastOf, parts_for}
+use Rattle.tap_sizes.specs.declared.ring_parts.RingParts.{RingParts}
 use Rattle.tap_sizes.specs.inside.Passes.{Clocks}
-use Rattle.tap_sizes.specs.inside.Passes.{drops_by, least_by, most_by}
-use Rattle.tp_layout.specs.Requests.{room_of}
+use Rattle.tap_sizes.specs.inside.Passes.{drops_by, drops_with, least_by, least_with, most_by}
+
+-- ---- what passes report of a sizing
+
+-- the number that a pass over what a member is given reports, for rings of a kind
+abbrev pub least_in : RingKind → Sizing → Timing → ℕ → ℕ → ℕ → ℕ
+least_in kind sizing pace member phase from =
+    least_with kind sizing.room (stalls_of sizing.reader.stalls) (begun pace phase from)
+    (given_to sizing member) (end_of sizing.times)
+
+-- and what a course drops
+abbrev pub drops_in : RingKind → Sizing → Timing → ℕ → ℕ → ℕ → ℕ → ℕ
+drops_in kind sizing pace member count phase from =
+    drops_with kind sizing.room count (stalls_of sizing.reader.stalls) (begun pace phase from)
+    (given_to sizing member) (end_of sizing.times)
+
+abbrev pub group_least_in : RingKind → Sizing → Timing → ℕ → ℕ → ℕ
+group_least_in kind sizing pace phase from =
+    greatest_of (λ member. least_in kind sizing pace member phase from) sizing.rules.members
 
 -- ---- the laws of pace_laws for what was tried
 
-abbrev pub IsDecided : Sizing → Timing → Tries → Type 0
-IsDecided sizing pace tries =
+abbrev pub IsDecided : RingKind → Sizing → Timing → Tries → Type 0
+IsDecided kind sizing pace tries =
     (found : Reached) (member : ℕ) → rolls_over sizing.rules ≡ false
     → member < sizing.rules.members
-    → IsFirstMost tries (least_at sizing pace member) found → IsLeastRing sizing member tries found
+    → IsFirstMost tries (least_in kind sizing pace member) found
+    → IsLeastOf kind sizing member tries found
 
-abbrev pub IsGroupDecided : Sizing → Timing → Tries → Type 0
-IsGroupDecided sizing pace tries =
-    (found : Reached) → IsFirstMost tries (group_least_at sizing pace) found
-    → IsLeastOfGroup sizing tries found
+abbrev pub IsGroupDecided : RingKind → Sizing → Timing → Tries → Type 0
+IsGroupDecided kind sizing pace tries =
+    (found : Reached) → IsFirstMost tries (group_least_in kind sizing pace) found
+    → IsGroupLeastOf kind sizing tries found
 
-abbrev pub AreDecided : Sizing → Timing → ℕ → Tries → Type 0
-AreDecided sizing pace blocks tries =
+abbrev pub AreDecided : RingKind → Sizing → Timing → ℕ → Tries → Type 0
+AreDecided kind sizing pace count tries =
     (found : Reached) (member : ℕ) → rolls_over sizing.rules ≡ false
-    → (IsFirstMost tries (drops_at sizing pace member blocks) found
-    → AreMostDrops sizing member blocks tries found)
-    × (IsFirstFewest tries (drops_at sizing pace member blocks) found
-    → AreFewestDrops sizing member blocks tries found)
+    → (IsFirstMost tries (drops_in kind sizing pace member count) found
+    → AreMostOf kind sizing member count tries found)
+    × (IsFirstFewest tries (drops_in kind sizing pace member count) found
+    → AreFewestOf kind sizing member count tries found)
 
-pub record AreLaws (sizing : Sizing) (pace : Timing) (blocks : ℕ) (tries : Tries) : Type 0 where
-  pub members : IsDecided sizing pace tries
-  pub group : IsGroupDecided sizing pace tries
-  pub drops : AreDecided sizing pace blocks tries
+pub record AreLaws (parts : RingParts) (sizing : Sizing) (pace : Timing) (tries : Tries)
+    : Type 0 where
+  pub members : IsDecided parts.kind sizing pace tries
+  pub group : IsGroupDecided parts.kind sizing pace tries
+  pub drops : AreDecided parts.kind sizing pace parts.count tries
 
 pub fewest_as : (tries : Tries) (one other : ℕ → ℕ → ℕ) (found : Reached)
     → ((phase from : ℕ) → one phase from ≡ other phase from)
@@ -68,25 +89,25 @@ clocks_of reader its_pace last =
 pub least_same : (job : Job) (reader : PacedReader) (bytes : List (List (List ℕ))) (pace : Timing)
     (end member : ℕ) (arrivals : List Arrival) (phase from : ℕ)
     → end ≡ end_of (times_by bytes) → arrivals ≡ given_to (sizing_by job reader bytes) member
-    → least_by (room_of job.setup.shape) (clocks_of reader pace end) arrivals phase from
-    ≡ least_at (sizing_by job reader bytes) pace member phase from
+    → least_by (parts_for job reader) (clocks_of reader pace end) arrivals phase from
+    ≡ least_in (parts_for job reader).kind (sizing_by job reader bytes) pace member phase from
 least_same job reader bytes pace end member arrivals phase from ends given =
-    ap (λ (a : List Arrival). least_by (room_of job.setup.shape) (clocks_of reader pace end) a phase
+    ap (λ (a : List Arrival). least_by (parts_for job reader) (clocks_of reader pace end) a phase
     from) given
-    ∙ ap (λ (e : ℕ). least_by (room_of job.setup.shape) (clocks_of reader pace e)
+    ∙ ap (λ (e : ℕ). least_by (parts_for job reader) (clocks_of reader pace e)
     (given_to (sizing_by job reader bytes) member) phase from) ends
 
 pub drops_same : (job : Job) (reader : PacedReader) (bytes : List (List (List ℕ))) (pace : Timing)
     (end member : ℕ) (arrivals : List Arrival) (phase from : ℕ)
     → end ≡ end_of (times_by bytes) → arrivals ≡ given_to (sizing_by job reader bytes) member
-    → drops_by (room_of job.setup.shape) job.setup.shape.block_nr (clocks_of reader pace end)
-    arrivals phase from
-    ≡ drops_at (sizing_by job reader bytes) pace member job.setup.shape.block_nr phase from
+    → drops_by (parts_for job reader) (clocks_of reader pace end) arrivals phase from
+    ≡ drops_in (parts_for job reader).kind (sizing_by job reader bytes) pace member
+    (parts_for job reader).count phase from
 drops_same job reader bytes pace end member arrivals phase from ends given =
-    ap (λ (a : List Arrival). drops_by (room_of job.setup.shape) job.setup.shape.block_nr
-    (clocks_of reader pace end) a phase from) given
-    ∙ ap (λ (e : ℕ). drops_by (room_of job.setup.shape) job.setup.shape.block_nr
-    (clocks_of reader pace e) (given_to (sizing_by job reader bytes) member) phase from) ends
+    ap (λ (a : List Arrival). drops_by (parts_for job reader) (clocks_of reader pace end) a phase
+    from) given
+    ∙ ap (λ (e : ℕ). drops_by (parts_for job reader) (clocks_of reader pace e)
+    (given_to (sizing_by job reader bytes) member) phase from) ends
 
 -- ---- the greatest of all members
 
@@ -101,8 +122,8 @@ most_same : (job : Job) (reader : PacedReader) (bytes : List (List (List ℕ))) 
     (all : List (List Arrival)) (phase from : ℕ) → end ≡ end_of (times_by bytes)
     → ((member : ℕ) → member < length all
     → get_or all member [] ≡ given_to (sizing_by job reader bytes) (at + member))
-    → most_by (room_of job.setup.shape) (clocks_of reader pace end) all phase from
-    ≡ greatest_of (λ member. least_at (sizing_by job reader bytes) pace (at + member) phase from)
+    → most_by (parts_for job reader) (clocks_of reader pace end) all phase from
+    ≡ greatest_of (λ member. least_in (parts_for job reader).kind (sizing_by job reader bytes) pace (at + member) phase from)
     (length all)
 most_same job reader bytes pace end at [] phase from ends given = refl
 most_same job reader bytes pace end at (arrivals ∷ all) phase from ends given =
@@ -112,13 +133,13 @@ most_same job reader bytes pace end at (arrivals ∷ all) phase from ends given 
     let rest = most_same job reader bytes pace end (at + 1) all phase from ends
     (λ member less. given (suc member) (omega (arith, less))
     ∙ ap (given_to sizing) (next member)) in
-    let shifted = numbers_greatest (λ member. least_at sizing pace (at + 1 + member) phase from)
-    (λ member. least_at sizing pace (at + suc member) phase from) (length all)
-    (λ member. ap (λ m. least_at sizing pace m phase from) (sym (next member))) in
-    ap (λ n. max n (most_by (room_of job.setup.shape) (clocks_of reader pace end) all phase from))
+    let shifted = numbers_greatest (λ member. least_in (parts_for job reader).kind sizing pace (at + 1 + member) phase from)
+    (λ member. least_in (parts_for job reader).kind sizing pace (at + suc member) phase from) (length all)
+    (λ member. ap (λ m. least_in (parts_for job reader).kind sizing pace m phase from) (sym (next member))) in
+    ap (λ n. max n (most_by (parts_for job reader) (clocks_of reader pace end) all phase from))
     one
-    ∙ ap (λ n. max (least_at sizing pace (at + 0) phase from) n) (rest ∙ shifted)
-    ∙ sym (lowest (λ member. least_at sizing pace (at + member) phase from) (length all)) where
+    ∙ ap (λ n. max (least_in (parts_for job reader).kind sizing pace (at + 0) phase from) n) (rest ∙ shifted)
+    ∙ sym (lowest (λ member. least_in (parts_for job reader).kind sizing pace (at + member) phase from) (length all)) where
       next : (member : ℕ) → at + suc member ≡ at + 1 + member
       next member = omega arith
 
@@ -135,25 +156,26 @@ pub group_same : (job : Job) (reader : PacedReader) (bytes : List (List (List �
     → length all ≡ job.setup.plan.members
     → ((member : ℕ) → member < length all
     → get_or all member [] ≡ given_to (sizing_by job reader bytes) member)
-    → most_by (room_of job.setup.shape) (clocks_of reader pace end) all phase from
-    ≡ group_least_at (sizing_by job reader bytes) pace phase from
+    → most_by (parts_for job reader) (clocks_of reader pace end) all phase from
+    ≡ group_least_in (parts_for job reader).kind (sizing_by job reader bytes) pace phase from
 group_same job reader bytes pace end all phase from ends count given =
     let sizing = sizing_by job reader bytes in
     most_same job reader bytes pace end 0 all phase from ends
     (λ member less. given member less ∙ ap (given_to sizing) (none member))
     ∙ zeros (length all)
-    ∙ ap (greatest_of (λ member. least_at sizing pace member phase from)) count where
+    ∙ ap (greatest_of (λ member. least_in (parts_for job reader).kind sizing pace member phase from)) count where
       none : (member : ℕ) → member ≡ 0 + member
       none member = omega arith
 
       zeros : (count : ℕ)
-          → greatest_of (λ member. least_at (sizing_by job reader bytes) pace (0 + member) phase from)
-          count
-          ≡ greatest_of (λ member. least_at (sizing_by job reader bytes) pace member phase from) count
+          → greatest_of (λ member. least_in (parts_for job reader).kind (sizing_by job reader bytes) pace (0 + member)
+          phase from) count
+          ≡ greatest_of (λ member. least_in (parts_for job reader).kind (sizing_by job reader bytes) pace member
+          phase from) count
       zeros zero = refl
       zeros (suc count) =
-          ap (λ n. max n (least_at (sizing_by job reader bytes) pace (0 + count) phase from))
+          ap (λ n. max n (least_in (parts_for job reader).kind (sizing_by job reader bytes) pace (0 + count) phase from))
           (zeros count)
           ∙ ap (λ m. max (greatest_of
-          (λ member. least_at (sizing_by job reader bytes) pace member phase from) count)
-          (least_at (sizing_by job reader bytes) pace m phase from)) (sym (none count))
+          (λ member. least_in (parts_for job reader).kind (sizing_by job reader bytes) pace member phase from) count)
+          (least_in (parts_for job reader).kind (sizing_by job reader bytes) pace m phase from)) (sym (none count))

@@ -1,5 +1,5 @@
 -- What the call returns and prints, by what it found.
-use Rattle.std.specs.Prelude.{◌≡◌, ◌≢◌, ◌⊎◌, ℕ, ◌≤◌, ◌+◌, Bool, true, false, Option, None, Some}
+use Rattle.std.specs.Prelude.{◌≡◌, ◌≢◌, ◌⊎◌, ℕ, ◌≤◌, ◌+◌, Bool, Option, None, Some}
 use Rattle.std.specs.Prelude.{if◌then◌else◌, IfOk, IfSome, IsTrue, OnErr, Result}
 use Rattle.frame_view.specs.declared.memory.Memory.{Memory}
 use Rattle.reader_pace.specs.declared.readers.PacedReader.{PacedReader}

@@ -1,6 +1,7 @@
 pub mod SizeWords
 pub mod SizeTexts
 pub mod SizeNames
+pub mod RingParts
 pub mod Readings
 pub mod Tried
 pub mod Answers

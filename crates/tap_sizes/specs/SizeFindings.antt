@@ -1,13 +1,8 @@
 -- What the program finds, from what the outside gives, and what it returns and prints from that.
-use Rattle.std.specs.Prelude.{◌≡◌, ℕ, ◌+◌, List, [], ◌∷◌, ◌++◌, codes, Option, None, Some}
-use Rattle.std.specs.Prelude.{if◌then◌else◌, Result, Ok, Err}
+use Rattle.std.specs.Prelude.{◌≡◌, ℕ, List, [], ◌∷◌, ◌++◌, codes, Option, None, Some}
 use Rattle.capture_file.specs.declared.cpu_end.CpuEnd.{CpuEnd}
 use Rattle.capture_file.specs.declared.cpu_end.CpuEnd.TheVariants.{Whole, Fault, Damaged}
 use Rattle.reader_pace.specs.declared.readers.PacedReader.{PacedReader}
-use Rattle.run_reports.specs.declared.ring_kind.RingKind.{RingKind}
-use Rattle.run_reports.specs.declared.ring_kind.RingKind.TheVariants.{Blocks}
-use Rattle.setup_text.specs.Answers.{is_setup_want}
-use Rattle.setup_text.specs.declared.commands.Command.TheVariants.{Replay}
 use Rattle.setup_text.specs.declared.jobs.Job.{Job}
 use Rattle.size_printing.specs.SizeLines.{file_lines, reader_refusal, size_lines}
 use Rattle.size_printing.specs.declared.size_reports.ReadFile.{ReadFile}
@@ -15,17 +10,17 @@ use Rattle.size_printing.specs.declared.size_reports.SizeReport.{SizeReport}
 use Rattle.tap_outside.specs.Seen.{StoreSeen}
 use Rattle.tap_printing.specs.Refusals.{setup_refusal, text_refusal}
 use Rattle.tap_reading.specs.Fronts.{ReadTexts}
-use Rattle.tap_reading.specs.Readers.{Refuses, setup_for}
 use Rattle.tap_running.specs.Counts.{IsCounted}
 use Rattle.tap_sizes.specs.Answers.{IsSized, IsTooLong}
 use Rattle.tap_sizes.specs.Readings.{file_faults}
-use Rattle.tap_sizes.specs.SizeTexts.{CantReadText, HasBadFilter, HasBadReader, IsSizeAsked}
+use Rattle.tap_sizes.specs.SizeTexts.{CantReadText, HasBadFilter, HasBadReader, HasBadSetup}
+use Rattle.tap_sizes.specs.SizeTexts.{IsSizeAsked}
 use Rattle.tap_sizes.specs.SizeWords.{SizeNamed}
 use Rattle.tap_sizes.specs.Tried.{unanswered_by}
 use Rattle.tap_sizes.specs.declared.outcomes.SizeStatus.{SizeStatus}
 use Rattle.tap_sizes.specs.declared.outcomes.SizeStatus.TheVariants as status
 use Rattle.tap_sizes.specs.declared.outcomes.Unanswered.{Unanswered}
-use Rattle.tap_sizes.specs.declared.outcomes.Unanswered.TheVariants.{Poll, Slots}
+use Rattle.tap_sizes.specs.declared.outcomes.Unanswered.TheVariants.{Poll}
 use Rattle.tap_sizes.specs.declared.size_findings.SizeFinding.{SizeFinding}
 use Rattle.tap_sizes.specs.declared.size_findings.SizeFinding.TheVariants as finding
 
@@ -47,8 +42,7 @@ IsSizeFound None old new finding.NoNames = ReadTexts old new []
 IsSizeFound None old new found = ⊥
 IsSizeFound (Some named) old new finding.NoNames = ⊥
 IsSizeFound (Some named) old new finding.Unread = CantReadText old new named
-IsSizeFound (Some named) old new (finding.BadSetup error) =
-    Refuses (setup_for Replay) is_setup_want [] old new named.setup error
+IsSizeFound (Some named) old new (finding.BadSetup error) = HasBadSetup old new named error
 IsSizeFound (Some named) old new (finding.BadFilter error) = HasBadFilter old new named error
 IsSizeFound (Some named) old new (finding.BadReader error) = HasBadReader old new named error
 IsSizeFound (Some named) old new (finding.Unanswered why) = IsUnanswered old new named why
@@ -90,7 +84,6 @@ report_in found = None
 -- the line of texts that the program can't answer yet
 unfoldable pub unanswered_line : Unanswered → List ℕ
 unanswered_line Poll = codes "reader: poll has no answer yet\n"
-unanswered_line Slots = codes "reader: slots has no answer yet\n"
 
 -- those of captures whose frames last too long
 abbrev pub too_long_lines : List ReadFile → List ℕ

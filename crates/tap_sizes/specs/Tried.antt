@@ -1,6 +1,6 @@
 -- What is tried of a reader: the phases of the timer and the beginnings of the reader.
 use Rattle.std.specs.Prelude.{ℕ, ◌+◌, ◌/◌}
-use Rattle.std.specs.Prelude.{if◌then◌else◌, Option, None, Some}
+use Rattle.std.specs.Prelude.{Option, None, Some}
 use Rattle.reader_pace.specs.declared.paces.Beginnings.{Beginnings}
 use Rattle.reader_pace.specs.declared.paces.Beginnings.TheVariants as beginnings
 use Rattle.reader_pace.specs.declared.paces.Pace.{Pace}
@@ -10,7 +10,7 @@ use Rattle.reader_pace.specs.declared.paces.Phases.TheVariants as phases
 use Rattle.reader_pace.specs.declared.readers.PacedReader.{PacedReader}
 use Rattle.ring_sizes.specs.declared.tries.Tries.{Tries}
 use Rattle.tap_sizes.specs.declared.outcomes.Unanswered.{Unanswered}
-use Rattle.tap_sizes.specs.declared.outcomes.Unanswered.TheVariants.{Poll, Slots}
+use Rattle.tap_sizes.specs.declared.outcomes.Unanswered.TheVariants.{Poll}
 
 -- ---- what the program can't answer yet
 
@@ -20,7 +20,7 @@ unanswered_pace (pace.Poll delay) = Some Poll
 unanswered_pace (pace.Blocks count) = None
 
 abbrev pub unanswered_by : PacedReader → Option Unanswered
-unanswered_by reader = if reader.slots then Some Slots else unanswered_pace reader.pace
+unanswered_by reader = unanswered_pace reader.pace
 
 -- ---- what is tried
 

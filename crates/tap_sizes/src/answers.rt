@@ -1,18 +1,21 @@
 //! The answers: the least ring of each member and of the group.
-ghost use Rattle.std.specs.Prelude.{◌≡◌, ◌<◌, ◌≤◌, ◌^◌, ℕ, false, None, IfOk, get_or, length};
+ghost use Rattle.std.specs.Prelude.{◌≡◌, ◌+◌, ◌<◌, ◌≤◌, ◌^◌, ℕ, true, None, IfOk, get_or, length};
 ghost use Rattle.std.specs.Prelude.{if◌then◌else◌};
 ghost use Rattle.std.specs.List.{AllByRecursion};
 ghost use Rattle.reader_pace.specs.Sound.{IsReader};
 ghost use Rattle.ring_sizes.specs.declared.tries.Reached.{Reached};
 ghost use Rattle.ring_sizes.specs.Phases.{AreTried, IsFirstMost};
+ghost use Rattle.run_reports.specs.declared.ring_kind.RingKind.TheVariants.{Slots};
 ghost use Rattle.setup_text.specs.Sound.{IsSetup};
+ghost use Rattle.slot_layout.specs.SlotShapes.{IsSlotShape};
 ghost use Rattle.tap_sizes.specs.Tried.{unanswered_pace};
 ghost use Rattle.tap_sizes.specs.inside.Passes.{AreDropRanges, AreFirstMost, IsAnsweredBy};
 ghost use Rattle.tap_sizes.specs.inside.Passes.{IsDropRange, IsEarly, greatest_ring, is_greater};
 ghost use Rattle.tap_sizes.specs.inside.Passes.{least_by};
-ghost use Rattle.tp_layout.specs.Requests.{room_of, time_out_of};
+ghost use Rattle.tp_layout.specs.Requests.{time_out_of};
 
 use crate::reader_tries::{pace_of, rolls_over, stalls_of, tries_of};
+use crate::ring_parts::{RingParts, parts_of};
 use crate::size_texts::time_out;
 use frame_deals::{Dealt, DealtList};
 use frame_view::Memory;
@@ -20,11 +23,12 @@ use reader_pace::PacedReader;
 use ring_sizes::{
     Arrival, DropRange, Reached, StallTime, Timing, Tries, least_of_all, losses_of_all,
 };
+use run_reports::RingKind;
 use setup_text::Setup;
 use size_printing::{DropRanges, ReachedList, ReadFiles, SizeReport};
+use slot_sizes::{least_slots_of_all, slot_losses_of_all};
 use std::alloc::Global;
 use std::thread::Threads;
-use tp_layout::Shape;
 
 /// More arrivals than memory holds.
 const TOO_MANY: usize = 1 << 60;
@@ -41,7 +45,7 @@ pub(crate) fn answers_of<R: Threads + Sync>(
     requires setup { IsSetup setup.now }
     requires reader { (cpus : ℕ) × IsReader cpus (time_out_of setup.now.shape) reader.now }
     requires answered { unanswered_pace reader.now.pace ≡ None }
-    requires blocks { reader.now.slots ≡ false }
+    requires slots { reader.now.slots ≡ true → IsSlotShape setup.now.shape }
     requires some { 0 < length dealt.now.members.items }
     requires early { AllByRecursion IsEarly dealt.now.members.items }
     requires soon { dealt.now.end < 2 ^ 53 }
@@ -52,8 +56,8 @@ pub(crate) fn answers_of<R: Threads + Sync>(
     let pace = pace_of(reader.pace, tov);
     let tries = tries_of(reader, tov);
     let stalls = stalls_of(alloc, reader)?;
-    let room = setup.shape.room();
-    let rings = least_rings(rt, alloc, room, &pace, &tries, stalls.as_slice(), dealt)?;
+    let parts = parts_of(&setup.shape, reader.slots);
+    let rings = least_rings(rt, alloc, &parts, &pace, &tries, stalls.as_slice(), dealt)?;
     let group = greatest(rings.as_slice());
     if rolls_over(&setup.plan) {
         return Ok(SizeReport {
@@ -63,15 +67,7 @@ pub(crate) fn answers_of<R: Threads + Sync>(
             drops: DropRanges::new(alloc),
         });
     }
-    let drops = drop_ranges(
-        rt,
-        alloc,
-        &setup.shape,
-        &pace,
-        &tries,
-        stalls.as_slice(),
-        dealt,
-    )?;
+    let drops = drop_ranges(rt, alloc, &parts, &pace, &tries, stalls.as_slice(), dealt)?;
     Ok(SizeReport {
         files,
         members: rings,
@@ -84,22 +80,23 @@ pub(crate) fn answers_of<R: Threads + Sync>(
 fn least_rings<R: Threads + Sync>(
     rt: &R,
     alloc: Global,
-    room: u32,
+    parts: &RingParts,
     pace: &Timing,
     tries: &Tries,
     stalls: &[StallTime],
     dealt: &Dealt,
 ) -> Result<ReachedList, Memory>
     requires tried { AreTried pace.now tries.now }
+    requires once { parts.now.kind ≡ Slots → tries.now.phase_end ≡ tries.now.first_phase + 1 }
     requires early { AllByRecursion IsEarly dealt.now.members.items }
     requires soon { dealt.now.end < 2 ^ 53 }
-    ensures { IfOk result (AreFirstMost room
+    ensures { IfOk result (AreFirstMost parts.now
         (record { pace = pace.now; stalls = stalls.now; end = dealt.now.end })
         tries.now dealt.now.members.items) }
 {
     let mut rings = ReachedList::new(alloc);
     for arrivals in &dealt.members {
-        let ring = least_ring(rt, room, pace, tries, stalls, arrivals, dealt.end)?;
+        let ring = least_ring(rt, parts, pace, tries, stalls, arrivals, dealt.end)?;
         rings.push(ring)?;
     }
     Ok(rings)
@@ -108,7 +105,7 @@ fn least_rings<R: Threads + Sync>(
 /// The least ring of a member, and the first phase and beginning at which it is needed.
 fn least_ring<R: Threads + Sync>(
     rt: &R,
-    room: u32,
+    parts: &RingParts,
     pace: &Timing,
     tries: &Tries,
     stalls: &[StallTime],
@@ -116,13 +113,17 @@ fn least_ring<R: Threads + Sync>(
     end: u64,
 ) -> Result<Reached, Memory>
     requires tried { AreTried pace.now tries.now }
+    requires once { parts.now.kind ≡ Slots → tries.now.phase_end ≡ tries.now.first_phase + 1 }
     requires early { IsEarly arrivals.now }
     requires soon { end < 2 ^ 53 }
-    ensures { IfOk result (IsFirstMost tries.now (least_by room
+    ensures { IfOk result (IsFirstMost tries.now (least_by parts.now
         (record { pace = pace.now; stalls = stalls.now; end = end }) arrivals.now)) }
 {
     let arrivals = counted(arrivals)?;
-    Ok(least_of_all(rt, room, pace, tries, stalls, arrivals, end))
+    match parts.kind {
+        RingKind::Blocks => Ok(least_of_all(rt, parts.room, pace, tries, stalls, arrivals, end)),
+        RingKind::Slots => Ok(least_slots_of_all(pace, tries, stalls, arrivals)),
+    }
 }
 
 /// What a member is given, as a pass takes it.
@@ -141,22 +142,23 @@ fn counted(arrivals: &DealtList) -> Result<&[Arrival], Memory>
 fn drop_ranges<R: Threads + Sync>(
     rt: &R,
     alloc: Global,
-    shape: &Shape,
+    parts: &RingParts,
     pace: &Timing,
     tries: &Tries,
     stalls: &[StallTime],
     dealt: &Dealt,
 ) -> Result<DropRanges, Memory>
     requires tried { AreTried pace.now tries.now }
+    requires once { parts.now.kind ≡ Slots → tries.now.phase_end ≡ tries.now.first_phase + 1 }
     requires early { AllByRecursion IsEarly dealt.now.members.items }
     requires soon { dealt.now.end < 2 ^ 53 }
-    ensures { IfOk result (AreDropRanges (room_of shape.now) shape.now.block_nr
+    ensures { IfOk result (AreDropRanges parts.now
         (record { pace = pace.now; stalls = stalls.now; end = dealt.now.end })
         tries.now dealt.now.members.items) }
 {
     let mut ranges = DropRanges::new(alloc);
     for arrivals in &dealt.members {
-        let range = drop_range(rt, shape, pace, tries, stalls, arrivals, dealt.end)?;
+        let range = drop_range(rt, parts, pace, tries, stalls, arrivals, dealt.end)?;
         ranges.push(range)?;
     }
     Ok(ranges)
@@ -165,7 +167,7 @@ fn drop_ranges<R: Threads + Sync>(
 /// The fewest and the most packets that a member's ring drops.
 fn drop_range<R: Threads + Sync>(
     rt: &R,
-    shape: &Shape,
+    parts: &RingParts,
     pace: &Timing,
     tries: &Tries,
     stalls: &[StallTime],
@@ -173,14 +175,18 @@ fn drop_range<R: Threads + Sync>(
     end: u64,
 ) -> Result<DropRange, Memory>
     requires tried { AreTried pace.now tries.now }
+    requires once { parts.now.kind ≡ Slots → tries.now.phase_end ≡ tries.now.first_phase + 1 }
     requires early { IsEarly arrivals.now }
     requires soon { end < 2 ^ 53 }
-    ensures { IfOk result (IsDropRange (room_of shape.now) shape.now.block_nr
+    ensures { IfOk result (IsDropRange parts.now
         (record { pace = pace.now; stalls = stalls.now; end = end }) tries.now arrivals.now) }
 {
     let arrivals = counted(arrivals)?;
-    let (room, blocks) = (shape.room(), shape.block_nr());
-    Ok(losses_of_all(rt, room, blocks, pace, tries, stalls, arrivals, end))
+    let (room, count) = (parts.room, parts.count);
+    match parts.kind {
+        RingKind::Blocks => Ok(losses_of_all(rt, room, count, pace, tries, stalls, arrivals, end)),
+        RingKind::Slots => Ok(slot_losses_of_all(count, pace, tries, stalls, arrivals)),
+    }
 }
 
 /// The greatest of some rings, and of those that are as great the one at the first phase and

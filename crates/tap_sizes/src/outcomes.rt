@@ -12,8 +12,6 @@ use size_printing::SizeReport;
 pub enum Unanswered {
     /// The reader polls.
     Poll,
-    /// The ring is one of slots.
-    Slots,
 }
 
 /// How the call ended.

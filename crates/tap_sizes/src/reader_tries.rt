@@ -26,11 +26,7 @@ const SECOND: u64 = 1_000_000_000;
 pub(crate) fn unanswered(reader: &PacedReader) -> Option<Unanswered>
     ensures { result ≡ unanswered_by reader.now }
 {
-    if reader.slots {
-        Some(Unanswered::Slots)
-    } else {
-        unanswered_pace(reader.pace)
-    }
+    unanswered_pace(reader.pace)
 }
 
 /// Whether the packets of a group roll over to other members.
@@ -84,7 +80,7 @@ pub(crate) fn pace_of(pace: Pace, tov: u32) -> Timing
 pub(crate) fn tries_of(reader: &PacedReader, tov: u32) -> Tries
     requires reader { (cpus : ℕ) × IsReader cpus tov reader.now }
     requires answered { unanswered_pace reader.now.pace ≡ None }
-    requires blocks { reader.now.slots ≡ false }
+    requires phases { ArePhases tov false reader.now.phases }
     requires some { 1 ≤ tov }
     ensures tries { result ≡ tries_by reader.now tov }
     ensures phases { result.first_phase < result.phase_end }

@@ -1,35 +1,41 @@
 //! What the program finds: its texts, its captures and its answers.
-ghost use Rattle.std.specs.Prelude.{◌≡◌, ℕ, None, Some, All, IfOk, IsTrue, List};
+ghost use Rattle.std.specs.Prelude.{◌≡◌, ℕ, true, None, Some, All, IfOk, IsTrue, List};
+ghost use Rattle.reader_pace.specs.Answers.{is_reader_want};
+ghost use Rattle.reader_pace.specs.ReaderWords.{says_slots};
 ghost use Rattle.reader_pace.specs.Sound.{IsReader};
 ghost use Rattle.setup_text.specs.Sound.{IsSetup};
+ghost use Rattle.slot_layout.specs.SlotShapes.{IsSlotShape};
 ghost use Rattle.std.specs.Prelude.{length};
 ghost use Rattle.tap_outside.specs.Seen.{StoreSeen};
 ghost use Rattle.tap_sizes.specs.Endings.{IsSizeSearched};
 ghost use Rattle.tap_sizes.specs.SizeNames.{AreMeantToSize, AreMoreMeant};
 ghost use Rattle.tap_sizes.specs.Readings.{AreAllRead};
+ghost use Rattle.tap_sizes.specs.RingParts.{parts_for};
 ghost use Rattle.tap_sizes.specs.SizeTexts.{IsJobRead, IsSizeAsked};
 ghost use Rattle.tap_sizes.specs.SizeWords.{SizeNamed, size_named, size_words};
 ghost use Rattle.tap_sizes.specs.Tried.{unanswered_by};
 ghost use Rattle.tap_sizes.specs.inside.Measured.{AreSomeRead, IsMeasured};
-ghost use Rattle.tap_sizes.specs.inside.Stopped.{finding_of_reader_stop, finding_of_stop};
+ghost use Rattle.tap_sizes.specs.inside.Stopped.{finding_of_reader_error, finding_of_stop};
 ghost use Rattle.tp_layout.specs.Requests.{time_out_of};
 
 use crate::answers::answers_of;
 use crate::asked_sizes::{AskedSizes, size_words};
 use crate::cpu_reads::{CpuReads, read_cpus};
-use crate::reader_stops::ReaderStop;
 use crate::reader_tries::unanswered;
+use crate::ring_parts::parts_of;
 use crate::size_findings::SizeFinding;
-use crate::size_texts::{load_reader, load_size_job};
+use crate::size_texts::{SizeTexts, accept_reader, load_size_texts};
 use frame_deals::{all_files_are_what_arrives, deal};
 use frame_view::Memory;
 use pace_laws::{
     a_job_has_a_sizing, the_drops_of_courses_are_those_of_replays,
+    the_drops_of_slot_courses_are_those_of_replays,
     the_greatest_of_all_passes_is_the_least_ring_of_the_group,
+    the_greatest_of_all_slot_passes_is_the_least_number_of_the_group,
     the_greatest_of_the_passes_is_the_least_ring,
+    the_greatest_of_the_slot_passes_is_the_least_number,
 };
-use reader_pace::PacedReader;
-use run_reports::RingKind;
+use reader_pace::{PacedReader, ReaderError, ReaderKind};
 use setup_text::Job;
 use std::alloc::Global;
 use std::thread::Threads;
@@ -65,8 +71,8 @@ fn search_names<S: Store, R: Threads + Sync>(
     ensures { IsSizeSearched (Some (size_named asked.entry.setup.now asked.entry.reader.now))
         (S.seen store.old) (S.seen store.new) result }
 {
-    match load_size_job(alloc, asked, store) {
-        Ok(job) => search_job(rt, alloc, asked.reader, &job, store),
+    match load_size_texts(alloc, asked, store) {
+        Ok(texts) => search_job(rt, alloc, &texts, store),
         Err(stop) => stopped(stop),
     }
 }
@@ -83,38 +89,44 @@ fn stopped(stop: LoadError) -> Result<SizeFinding, Memory>
     }
 }
 
-/// Finds what is asked for with a setup and its filter.
+/// Finds what is asked for with a setup and its filter, and a reader's text.
 fn search_job<S: Store, R: Threads + Sync>(
     rt: &R,
     alloc: Global,
-    reader: &[u8],
-    job: &Job,
+    texts: &SizeTexts,
     store: &mut S,
 ) -> Result<SizeFinding, Memory>
-    requires setup { IsSetup job.now.setup }
-    requires reader { IsTrue ((S.seen store.old).to_read reader.now) }
+    requires setup { IsSetup texts.now.job.setup }
+    requires slots { says_slots texts.now.reader ≡ true → IsSlotShape texts.now.job.setup.shape }
     requires captures { All (λ cpu. IsTrue ((S.seen store.old).to_read cpu.file))
-        job.now.setup.cpus }
-    requires more { AreMoreMeant (S.seen store.old) reader.now job.now.setup }
-    ensures { (start : StoreSeen) (named : SizeNamed) → named.reader ≡ reader.now
-        → IsJobRead start (S.seen store.old) named job.now
+        texts.now.job.setup.cpus }
+    requires more { AreMoreMeant (S.seen store.old) texts.now.reader texts.now.job.setup }
+    ensures { (start : StoreSeen) (named : SizeNamed)
+        → IsJobRead start (S.seen store.old) named texts.now.reader texts.now.job
         → IsSizeSearched (Some named) start (S.seen store.new) result }
 {
-    match load_reader(alloc, store, reader, &job.setup) {
-        Ok(reader) => search_captures(rt, alloc, job, &reader, store),
-        Err(stop) => reader_stopped(stop),
+    match accept_reader(alloc, texts) {
+        Ok(reader) => search_captures(rt, alloc, &texts.job, &reader, store),
+        Err(error) => refused(error),
     }
 }
 
 /// What is found where there is no reader.
-fn reader_stopped(stop: ReaderStop) -> Result<SizeFinding, Memory>
-    ensures { result ≡ finding_of_reader_stop stop }
+fn refused(error: ReaderError) -> Result<SizeFinding, Memory>
+    ensures { result ≡ finding_of_reader_error error }
 {
-    match stop {
-        ReaderStop::Unread => Ok(SizeFinding::Unread),
-        ReaderStop::Reader(error) => Ok(SizeFinding::BadReader(error)),
-        ReaderStop::Memory => Err(Memory),
+    if is_reader_want(&error) {
+        Err(Memory)
+    } else {
+        Ok(SizeFinding::BadReader(error))
     }
+}
+
+/// Whether a reader's text wasn't read because memory ran out.
+fn is_reader_want(error: &ReaderError) -> bool
+    ensures { result ≡ is_reader_want error.now }
+{
+    matches!(error.kind, ReaderKind::Memory)
 }
 
 /// Finds what is asked for with texts that are accepted.
@@ -128,6 +140,7 @@ fn search_captures<S: Store, R: Threads + Sync>(
     requires setup { IsSetup job.now.setup }
     requires reader { IsReader (length job.now.setup.cpus) (time_out_of job.now.setup.shape)
         reader.now }
+    requires slots { reader.now.slots ≡ true → IsSlotShape job.now.setup.shape }
     requires captures { All (λ cpu. IsTrue ((S.seen store.old).to_read cpu.file))
         job.now.setup.cpus }
     requires more { All (λ file. IsTrue ((S.seen store.old).to_read file.file)) reader.now.more }
@@ -138,7 +151,7 @@ fn search_captures<S: Store, R: Threads + Sync>(
     if let Some(why) = unanswered(reader) {
         return Ok(SizeFinding::Unanswered(why));
     }
-    let reads = read_cpus(alloc, job, reader.more.as_slice(), store)?;
+    let reads = read_cpus(alloc, job, reader, store)?;
     measure(rt, alloc, job, reader, reads)
 }
 
@@ -154,9 +167,12 @@ fn measure<R: Threads + Sync>(
     requires reader { IsReader (length job.now.setup.cpus) (time_out_of job.now.setup.shape)
         reader.now }
     requires answered { unanswered_by reader.now ≡ None }
-    requires read { AreSomeRead job.now reader.now.more reads.files reads.deals.items }
+    requires slots { reader.now.slots ≡ true → IsSlotShape job.now.setup.shape }
+    requires read { AreSomeRead job.now (parts_for job.now reader.now).room reader.now.more
+        reads.files reads.deals.items }
     ensures { (old new : StoreSeen) (bytes : List (List (List ℕ)))
-        → AreAllRead old new job.now reader.now.more bytes reads.files reads.deals.items
+        → AreAllRead old new job.now (parts_for job.now reader.now).room reader.now.more bytes
+        reads.files reads.deals.items
         → IfOk result (IsMeasured job.now reader.now bytes reads.files) }
 {
     all_files_are_what_arrives();
@@ -164,6 +180,9 @@ fn measure<R: Threads + Sync>(
     the_greatest_of_the_passes_is_the_least_ring();
     the_greatest_of_all_passes_is_the_least_ring_of_the_group();
     the_drops_of_courses_are_those_of_replays();
+    the_greatest_of_the_slot_passes_is_the_least_number();
+    the_greatest_of_all_slot_passes_is_the_least_number_of_the_group();
+    the_drops_of_slot_courses_are_those_of_replays();
     a_shape_is_sound(&job.setup.shape);
     let _members = job.setup.plan.members();
     let CpuReads { files, deals } = reads;
@@ -172,6 +191,6 @@ fn measure<R: Threads + Sync>(
         return Ok(SizeFinding::TooLong(files));
     }
     let report = answers_of(rt, alloc, &job.setup, reader, &dealt, files)?;
-    let unit = job.setup.shape.block_size();
-    Ok(SizeFinding::Sized(RingKind::Blocks, unit, report))
+    let parts = parts_of(&job.setup.shape, reader.slots);
+    Ok(SizeFinding::Sized(parts.kind, parts.size, report))
 }

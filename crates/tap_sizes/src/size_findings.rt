@@ -30,7 +30,7 @@ pub(crate) enum SizeFinding {
     Unanswered(Unanswered),
     /// The captures were read, and their frames last longer than the clock of a schedule goes.
     TooLong(ReadFiles),
-    /// The answers for rings of blocks, or slots, of so many bytes each.
+    /// The answers for rings of blocks, or of slots, of so many bytes each.
     Sized(RingKind, u32, SizeReport),
 }
 
@@ -90,7 +90,6 @@ fn unanswered_line(alloc: Global, why: Unanswered) -> Result<String, Memory>
 {
     let line = match why {
         Unanswered::Poll => String::from_str(alloc, "reader: poll has no answer yet\n")?,
-        Unanswered::Slots => String::from_str(alloc, "reader: slots has no answer yet\n")?,
     };
     Ok(line)
 }

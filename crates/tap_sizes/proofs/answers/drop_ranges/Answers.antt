@@ -14,7 +14,7 @@ loop-arrivals-preserved g c =
     c.arrivals-item.result) value in
     let less = subst (λ (all : List (List Arrival)). c.loop-arrivals.arrivals-index < length all) value
     c.loop-arrivals-test.true in
-    one_range_more _ _ clocks c.args.tries.now c.args.dealt.now.members.items
+    one_range_more c.args.parts.now clocks c.args.tries.now c.args.dealt.now.members.items
     c.loop-arrivals.ranges c.push.new.self c.loop-arrivals.arrivals-index c.arrivals-item.result
     c.in_ok-range.range is less c.in_ok-push.ensures.ok c.loop-arrivals.invariant
     c.in_ok-range.ensures

@@ -14,6 +14,6 @@ loop-arrivals-preserved g c =
     c.arrivals-item.result) value in
     let less = subst (λ (all : List (List Arrival)). c.loop-arrivals.arrivals-index < length all) value
     c.loop-arrivals-test.true in
-    one_ring_more c.args.room clocks c.args.tries.now c.args.dealt.now.members.items
+    one_ring_more c.args.parts.now clocks c.args.tries.now c.args.dealt.now.members.items
     c.loop-arrivals.rings c.push.new.self c.loop-arrivals.arrivals-index c.arrivals-item.result
     c.in_ok-ring.ring is less c.in_ok-push.ensures.ok c.loop-arrivals.invariant c.in_ok-ring.ensures

@@ -5,5 +5,5 @@ use Rattle.tap_sizes.proofs.answers.least_rings.Given as goal
 
 abbrev pub invariant-loop-arrivals : goal.invariant-loop-arrivals
 invariant-loop-arrivals g l =
-    AreFirstMost l.room (record { pace = l.pace; stalls = l.stalls; end = l.dealt.end }) l.tries
+    AreFirstMost l.parts (record { pace = l.pace; stalls = l.stalls; end = l.dealt.end }) l.tries
     (take l.arrivals-index l.dealt.members.items) l.rings

@@ -1,4 +1,4 @@
-use Rattle.std.proofs.Common.{Ok, Option, inr, subst}
+use Rattle.std.proofs.Common.{inr, subst}
 use Rattle.std.specs.Prelude.{Result}
 use Rattle.frame_view.specs.declared.memory.Memory.{Memory}
 use Rattle.tap_running.proofs.Results.{if_ok, of_ok, on_err}

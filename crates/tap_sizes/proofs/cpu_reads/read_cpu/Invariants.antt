@@ -8,5 +8,5 @@ abbrev pub invariant-loop-file : goal.invariant-loop-file
 invariant-loop-file g l =
     OnlyReads (g.S.Store.seen l.initial.store) (g.S.Store.seen l.store)
     × (l.deal.cpu ≡ l.cpu) × (l.deal.shape ≡ l.job.setup.plan)
-    × AreFurtherRead (g.S.Store.seen l.initial.store) (g.S.Store.seen l.store) l.job l.cpu
+    × AreFurtherRead (g.S.Store.seen l.initial.store) (g.S.Store.seen l.store) l.job l.parts.room l.cpu
     (take l.file-index l.more) l.initial.files l.files l.initial.deal l.deal

@@ -6,7 +6,7 @@ use Rattle.tap_sizes.proofs.cpu_reads.read_cpus.Goals as goal
 pub loop-cpu-init : goal.loop-cpu-init
 loop-cpu-init g c =
     rw (c.new-files.ensures, c.in_ok-deals.ensures.items)
-    (OnlyReads-none _, omega arith, none_read _ c.args.job.now c.args.more.now)
+    (OnlyReads-none _, omega arith, none_read _ c.args.job.now _ c.args.reader.now.more)
 
 pub loop-cpu-preserved : goal.loop-cpu-preserved
 loop-cpu-preserved g c =
@@ -17,7 +17,7 @@ loop-cpu-preserved g c =
       OnlyReads-then _ _ _ inv.0 c.in_ok-deal.ensures.store,
       within,
       one_cpu_more (g.S.Store.seen c.args.store.now) (g.S.Store.seen c.loop-cpu.store)
-          (g.S.Store.seen c.read_cpu.new.store) c.args.job.now c.args.more.now c.loop-cpu.cpu
+          (g.S.Store.seen c.read_cpu.new.store) c.args.job.now _ c.args.reader.now.more c.loop-cpu.cpu
           c.loop-cpu.files c.read_cpu.new.files c.loop-cpu.deals.items c.push.new.self.items
           c.in_ok-deal.deal less dealt inv.2 c.in_ok-deal.ensures.read,
     )

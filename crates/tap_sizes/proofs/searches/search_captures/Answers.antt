@@ -1,7 +1,5 @@
-use Rattle.std.proofs.Common.{◌≡◌, None, List, rules, subst, sym, ◌∙◌}
+use Rattle.std.proofs.Common.{◌≡◌, None, rules, sym, ◌∙◌}
 use Rattle.std.proofs.lemmas.Result.{err_from_is_err_and}
-use Rattle.reader_pace.specs.declared.paces.MoreFile.{MoreFile}
-use Rattle.tap_sizes.specs.Readings.{AreAllRead}
 use Rattle.tap_sizes.specs.Tried.{unanswered_by}
 use Rattle.tap_sizes.proofs.Searched.{cut_later, measured, unanswered_found}
 use Rattle.tap_sizes.proofs.searches.search_captures.Goals as goal
@@ -17,10 +15,8 @@ returns g c = λ start named asked.
     let new = g.S.Store.seen c.read_cpus.new.store in
     let read = c.in_ok-reads.ensures.read in
     let none : unanswered_by c.args.reader.now ≡ None = search rules in
-    let all = subst (λ (more : List MoreFile). AreAllRead old new c.args.job.now more read.0
-    c.in_ok-reads.reads.files c.in_ok-reads.reads.deals.items) c.as_slice.ensures read.1 in
     measured start old new named c.args.job.now c.args.reader.now read.0 _ _ c.measure.result asked
-    none c.read_cpus.ensures.store all (c.measure.ensures _ _ read.0 all)
+    none c.read_cpus.ensures.store read.1 (c.measure.ensures _ _ read.0 read.1)
 
 pub returns-in_err-reads : goal.returns-in_err-reads
 returns-in_err-reads g c = λ start named asked.

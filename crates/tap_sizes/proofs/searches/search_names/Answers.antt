@@ -11,7 +11,7 @@ pub returns-in-Err : goal.returns-in-Err
 returns-in-Err g c =
     let named : SizeNamed = size_named c.args.asked.setup.now c.args.asked.reader.now in
     let old = g.S.Store.seen c.args.store.now in
-    let new = g.S.Store.seen c.load_size_job.new.store in
+    let new = g.S.Store.seen c.load_size_texts.new.store in
     subst (λ (r : Result SizeFinding Memory). IsSizeSearched (Some named) old new r)
     (sym c.stopped.ensures)
-    (stopped old new named c.in-Err.stop c.load_size_job.ensures.store c.in-Err.ensures.stop)
+    (stopped old new named c.in-Err.stop c.load_size_texts.ensures.store c.in-Err.ensures.stop)
