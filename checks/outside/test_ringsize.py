@@ -104,6 +104,31 @@ def test_a_setup_that_is_refused(here: Here) -> None:
     )
 
 
+def test_the_setup_is_refused_before_the_reader(here: Here) -> None:
+    here.write("reader.txt", "sleep 1\n")
+    assert here.run(conf=here.conf("block_nr 2", "blok_nr 2")) == Run(
+        "setup line 2: unknown_word\n", 2
+    )
+
+
+def test_slots_want_a_setup_of_replay2(here: Here) -> None:
+    """A ring of TPACKET_V2 has no time-out, whatever else the reader's text says."""
+    timed = here.conf("cpu ", "tov 5\ncpu ")
+    for lines in ("pause 3\nslots\n", "sleep 1\n\tslots \n"):
+        here.write("reader.txt", lines)
+        assert here.run(conf=timed) == Run("setup line 0: request transmit\n", 2)
+    for lines in ("pause 3\n", "pause 3\n# slots\n#slots\n"):
+        here.write("reader.txt", lines)
+        assert here.run(conf=timed).status == 0
+
+
+def test_slots_of_a_capture_without_a_frame(here: Here) -> None:
+    here.write("reader.txt", "pause 3\nslots\n")
+    assert here.run(conf=here.conf("burst.pcap", "/dev/null")) == Run(
+        EMPTY.format("truncated 0").replace("blocks", "slots"), 4
+    )
+
+
 @pytest.mark.parametrize(("lines", "line", "kind"), REFUSED)
 def test_a_reader_that_is_refused(lines: str, line: int, kind: str, here: Here) -> None:
     here.write("reader.txt", f"{lines}\n" * bool(lines))

@@ -9,10 +9,11 @@ MILLISECOND, SECOND = 1_000_000, 1_000_000_000
 
 class Reader:
     """A reader that sleeps `pause` milliseconds and then takes all that is there, or that takes
-    one block `blocks` times a second."""
+    one block `blocks` times a second; and whether its rings are of slots."""
 
     def __init__(self, text: str) -> None:
         self.pause = self.blocks = 0
+        self.slots = False
         self.stalls: list[tuple[int, int]] = []  # when each begins and ends
         self.phase: int | None = None
         self.begin: int | None = None
@@ -25,11 +26,15 @@ class Reader:
                 self.phase = int(values[0])
             elif word == "from" and values != ["all"]:
                 self.begin = int(values[0])
+            elif word == "slots":
+                self.slots = True
             elif word in ("pause", "blocks"):
                 setattr(self, word, int(values[0]))
 
     def phases(self, tov: int) -> range:
-        """The phases of the timer that are tried."""
+        """The phases of the timer that are tried; a ring of slots has none."""
+        if self.slots:
+            return range(1)
         return range(tov) if self.phase is None else range(self.phase, self.phase + 1)
 
     def beginnings(self) -> range:

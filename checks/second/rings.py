@@ -80,6 +80,10 @@ class Ring(Counts):
         """Whether the block after so many more retired ones is still the reader's."""
         return len(self.done) + retired + 1 - self.count > self.released
 
+    def waits(self) -> bool:
+        """Whether a tick may hand a block over, or thaw the ring."""
+        return self.open != []
+
     def retire(self, block: list[Offer], by_time: bool = False) -> None:
         self.done.append((USER + BY_TIME * by_time + LOSING * (self.drops > 0), block))
 
@@ -174,8 +178,16 @@ class SlotRing(Counts):
         """The most bytes of a frame that a slot keeps."""
         return setup.frame_size - V2_HEADER
 
+    def held(self) -> bool:
+        """Whether the next slot is still the reader's."""
+        return len(self.done) + 1 - self.count > self.released
+
+    @staticmethod
+    def waits() -> bool:
+        return False
+
     def try_put(self, offer: Offer) -> bool:
-        if len(self.done) + 1 - self.count > self.released:
+        if self.held():
             return False
         self.done.append(
             (USER + LOSING * (self.drops > 0) + VLAN * (offer.frame.tag is not None), offer)

@@ -14,7 +14,6 @@ from second.capture_bytes import header, record
 from second.hash_values import KEY
 from second.readers import MILLISECOND, SECOND, Reader
 from second.replays import FILTERS, datagram, frame
-from second.rings import Ring
 from second.setup import Setup
 from second.sizes import Sizing, feeds_of
 
@@ -80,12 +79,15 @@ def fragments(numbers: random.Random) -> list[bytes]:
     return [piece for _ in range(numbers.randrange(1, 4)) for piece in datagram(numbers)]
 
 
-def reader_text(numbers: random.Random) -> str:
+def reader_text(numbers: random.Random, has_slots: bool) -> str:
     lines = [numbers.choice([f"pause {numbers.randrange(1, 6)}", f"blocks {period(numbers)}"])]
     for _ in range(numbers.choice([0, 1, 1, 2])):
         lines.append(f"stall {numbers.randrange(20)} {numbers.randrange(1, 25)}")
     lines += numbers.choice([[], [], [], ["from all"], ["from all"], ["from 0"]])
-    lines += numbers.choice([[], [], [], ["phases all"], ["phases all"], ["phase 0"]])
+    if has_slots:
+        lines.append("slots")
+    else:
+        lines += numbers.choice([[], [], [], ["phases all"], ["phases all"], ["phase 0"]])
     numbers.shuffle(lines)
     return "".join(f"{line}\n" for line in lines)
 
@@ -95,21 +97,38 @@ def period(numbers: random.Random) -> int:
     return numbers.choice([200, 256, 333, 400, 999, 1_000, 1_001, 5_000])
 
 
-def drawn(seed: int, has_stray: bool = False) -> SizeCase:
-    """The case of a number: a group of some CPUs and members with short time-outs."""
-    numbers = random.Random(seed)
-    cpus, blocks = numbers.randrange(1, 3), numbers.randrange(2, 5)
-    lines = [
+def ring_of_blocks(numbers: random.Random) -> list[str]:
+    blocks = numbers.randrange(2, 5)
+    return [
         "block_size 4096", f"block_nr {blocks}", "frame_size 2048", f"frame_nr {2 * blocks}",
-        f"tov {numbers.randrange(2, 6)}", f"members {numbers.randrange(1, 4)}", f"key {KEY}",
+        f"tov {numbers.randrange(2, 6)}", *["priv 13"] * (numbers.random() < 0.3),
+    ]
+
+
+def ring_of_slots(numbers: random.Random) -> list[str]:
+    blocks, each = numbers.randrange(2, 7), numbers.choice([1, 1, 2, 8])
+    return [
+        "block_size 4096", f"block_nr {blocks}", f"frame_size {4096 // each}",
+        f"frame_nr {blocks * each}",
+    ]
+
+
+def drawn(seed: int, has_stray: bool = False, has_slots: bool = False) -> SizeCase:
+    """The case of a number: a group of some CPUs and members with short time-outs, or slots."""
+    numbers = random.Random(seed)
+    cpus = numbers.randrange(1, 3)
+    lines = [
+        *(ring_of_slots(numbers) if has_slots else ring_of_blocks(numbers)),
+        f"members {numbers.randrange(1, 4)}", f"key {KEY}",
         f"mode {numbers.choice(['hash', 'lb', 'cpu', 'cpu', 'qm', 'rollover'])}",
         *(f"cpu in{cpu}.pcap {5 * cpu}" for cpu in range(cpus)),
-        *(line for line in ("flag defrag", "priv 13") if numbers.random() < 0.3),
+        *["flag defrag"] * (numbers.random() < 0.3),
     ]
     listing = numbers.choice([None, None, *FILTERS])
     lines += ["filter filter.ddd"] * bool(listing)
     captures = [captured(numbers, has_stray and cpu == 0) for cpu in range(cpus)]
-    return SizeCase("".join(f"{line}\n" for line in lines), reader_text(numbers), captures, listing)
+    text = reader_text(numbers, has_slots)
+    return SizeCase("".join(f"{line}\n" for line in lines), text, captures, listing)
 
 
 # ---- the schedule of a try, written out
@@ -128,11 +147,11 @@ def schedule(sizing: Sizing, blocks: int, phase: int, begin: int) -> str:
     """The lines by which rings of so many blocks are replayed at a phase and a beginning. Of one
     moment ticks come first, then feeds, then reads."""
     setup, reader = sizing.setup, sizing.reader
-    feeds = feeds_of(sizing.replay(Ring).frames)
+    feeds = feeds_of(sizing.replay(sizing.own).frames)
     end = feeds[-1].moment if feeds else 0
     timed = [(feed.moment, 1, f"feed {feed.cpu}\n") for feed in feeds]
     label = setup.tov
-    while (moment := (label - phase) * MILLISECOND) <= end:
+    while (moment := (label - phase) * MILLISECOND) <= end and not reader.slots:
         timed.append((moment, 0, f"tick {label}\n"))
         label += setup.tov
     each = 1 if reader.blocks else blocks
@@ -148,7 +167,7 @@ Place = tuple[int, int]  # a phase and a beginning
 
 @dataclass(frozen=True)
 class Judge:
-    """`ringtap replay` in the folder of a case, each replay once."""
+    """`ringtap replay`, or `replay2` for slots, in the folder of a case, each replay once."""
 
     program: Path
     folder: Path
@@ -157,12 +176,17 @@ class Judge:
     known: dict[tuple[int, Place], list[Place]] = field(default_factory=dict)
 
     def replayed(self, blocks: int, place: Place) -> list[Place]:
-        """The drops and freezes of each member's ring of so many blocks."""
-        text = re.sub(r"^block_nr .*", f"block_nr {blocks}", self.case.setup, flags=re.M)
-        text = re.sub(r"^frame_nr .*", f"frame_nr {2 * blocks}", text, flags=re.M)
+        """The drops and freezes of each member's ring of so many blocks; or of so many slots, each
+        a block of its own, since the number of them alone decides what is lost."""
+        slots = self.sizing.reader.slots
+        each = {"block_nr": blocks, "frame_nr": blocks * (1 if slots else 2)}
+        text = self.case.setup
+        for word, number in {**each, **({"frame_size": 4096} if slots else {})}.items():
+            text = re.sub(rf"^{word} .*", f"{word} {number}", text, flags=re.M)
         (self.folder / "tried").write_text(text)
         (self.folder / "sched").write_text(schedule(self.sizing, blocks, *place))
-        ran, why = running.run([self.program, "replay", "tried", "sched"], cwd=self.folder)
+        command = "replay2" if slots else "replay"
+        ran, why = running.run([self.program, command, "tried", "sched"], cwd=self.folder)
         assert ran is not None and ran.returncode == 0, why or ran
         line = r"^member \d+ packets \d+ drops (\d+) freezes (\d+)"
         found = re.findall(line, ran.stdout.decode(), re.M)
@@ -174,7 +198,9 @@ class Judge:
         return self.known[blocks, place]
 
     def freezes(self, member: int, blocks: int, place: Place) -> bool:
-        return self.members(blocks, place)[member][1] > 0
+        """Whether a member's ring of so many blocks freezes, or one of so many slots drops."""
+        drops, freezes = self.members(blocks, place)[member]
+        return (drops if self.sizing.reader.slots else freezes) > 0
 
     def is_smallest(self, member: int, blocks: int, place: Place) -> bool:
         """Whether a member's ring of so many blocks freezes nowhere, each smaller one at this
@@ -190,9 +216,13 @@ class Judge:
             )
         )
 
+    def own_count(self) -> int:
+        setup = self.sizing.setup
+        return setup.frame_nr if self.sizing.reader.slots else setup.block_nr
+
     def drops(self, member: int) -> list[int]:
         """What the setup's own ring of a member drops at each try."""
         return [
-            self.members(self.sizing.setup.block_nr, place)[member][0]
+            self.members(self.own_count(), place)[member][0]
             for place in self.sizing.places
         ]

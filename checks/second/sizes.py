@@ -14,12 +14,12 @@ from typing import NamedTuple
 from second import filter_verdicts
 from second.frames import NANOSECONDS, Frame
 from second.readers import MILLISECOND, Reader
-from second.rings import Ring, RingKind
+from second.rings import Ring, RingKind, SlotRing
 from second.runs import Replay
 from second.setup import Setup
 
 LONGEST = 4_294_967_295  # milliseconds that captures may last
-MOST_BLOCKS, MOST_BYTES = 256, 64 << 20  # what a setup may ask for
+MOST_BLOCKS, MOST_SLOTS, MOST_BYTES = 256, 65_536, 64 << 20  # what a setup may ask for
 
 
 class Roomy(Ring):
@@ -34,6 +34,18 @@ class Roomy(Ring):
         return False
 
 
+class RoomySlots(SlotRing):
+    """A ring that has a slot more for ever. It counts how many it would have needed."""
+
+    def __init__(self, setup: Setup) -> None:
+        super().__init__(setup)
+        self.need = 0
+
+    def held(self) -> bool:
+        self.need = max(self.need, len(self.done) + 1 - self.released)
+        return False
+
+
 class Watched(Ring):
     """A ring that notes whether it ever found the next block still the reader's."""
 
@@ -43,6 +55,19 @@ class Watched(Ring):
 
     def held(self, retired: int) -> bool:
         is_held = super().held(retired)
+        self.was_held |= is_held
+        return is_held
+
+
+class WatchedSlots(SlotRing):
+    """A ring that notes whether it ever found the next slot still the reader's."""
+
+    def __init__(self, setup: Setup) -> None:
+        super().__init__(setup)
+        self.was_held = False
+
+    def held(self) -> bool:
+        is_held = super().held()
         self.was_held |= is_held
         return is_held
 
@@ -105,7 +130,7 @@ class Timed:
     def is_idle(self) -> bool:
         """Whether a tick moves the clock alone, and a read finds nothing."""
         return all(
-            ring.open == [] and ring.released == len(ring.done) for ring in self.replay.rings
+            not ring.waits() and ring.released == len(ring.done) for ring in self.replay.rings
         )
 
     def tick_to(self, count: int) -> None:
@@ -141,6 +166,10 @@ class Sizing:
     ) -> None:
         self.setup, self.reader, self.captures, self.program = setup, reader, captures, program
         self.places = list(reader.tries(setup.tov))
+        # the setup's own rings, those that have room for ever, and those that note what they find
+        self.own: RingKind = SlotRing if reader.slots else Ring
+        self.roomy: type[Roomy | RoomySlots] = RoomySlots if reader.slots else Roomy
+        self.watched: type[Watched | WatchedSlots] = WatchedSlots if reader.slots else Watched
 
     def replay(self, kind: RingKind) -> Replay:
         return Replay(self.setup, self.captures, self.program, kind)
@@ -159,41 +188,46 @@ class Sizing:
         return self.first(needs, most) if most > 1 else Place(2, *self.places[0])
 
     def is_too_long(self) -> bool:
-        feeds = feeds_of(self.replay(Ring).frames)
+        feeds = feeds_of(self.replay(self.own).frames)
         return bool(feeds) and feeds[-1].moment > LONGEST * MILLISECOND
 
     def lines(self) -> str:
         """What is printed."""
-        replay = self.replay(Ring)
+        replay = self.replay(self.own)
         replay.feed_rest()
         found = list(replay.cpu_lines())
         if self.is_too_long():
             return "".join([*found, f"captures longer than {LONGEST} ms\n"])
-        needs = [[ring.need for ring in rings] for rings in self.rings(Roomy)]
+        needs = [[ring.need for ring in rings] for rings in self.rings(self.roomy)]
         has_members = not self.setup.rolls_over()
         for member in range(self.setup.members * has_members):
             mine = self.smallest([each[member] for each in needs])
-            found.append(f"member {member} {self.blocks(mine)}")
-        found.append(f"group {self.blocks(self.smallest([max(each) for each in needs]))}")
+            found.append(f"member {member} {self.ring(mine)}")
+        found.append(f"group {self.ring(self.smallest([max(each) for each in needs]))}")
         return "".join([*found, *self.drops(has_members)])
 
-    def blocks(self, place: Place) -> str:
-        is_beyond = place.number > MOST_BLOCKS or place.number * self.setup.block_size > MOST_BYTES
-        return f"blocks {place.text()}{' beyond' * is_beyond}\n"
+    def ring(self, place: Place) -> str:
+        """A ring of so many blocks, or slots, and whether no setup may ask for it."""
+        kind, most, size = (
+            ("slots", MOST_SLOTS, self.setup.frame_size) if self.reader.slots
+            else ("blocks", MOST_BLOCKS, self.setup.block_size)
+        )
+        is_beyond = place.number > most or place.number * size > MOST_BYTES
+        return f"{kind} {place.text()}{' beyond' * is_beyond}\n"
 
     def drops(self, has_members: bool) -> Iterator[str]:
-        drops = [[ring.drops for ring in rings] for rings in self.rings(Ring) if has_members]
+        drops = [[ring.drops for ring in rings] for rings in self.rings(self.own) if has_members]
         for member in range(self.setup.members * has_members):
             mine = [each[member] for each in drops]
             least, most = self.first(mine, min(mine)), self.first(mine, max(mine))
             yield f"member {member} drops least {least.text()} most {most.text()}\n"
 
     def by_trying(self) -> int:
-        """The smallest ring of the group by trying each number of blocks from 2 to the most: the
-        first from which on no ring finds a block held."""
+        """The smallest ring of the group by trying each number of blocks, or slots, from 2 to 256:
+        the first from which on no ring finds one held."""
         last_held = 1
-        for blocks in range(2, MOST_BLOCKS + 1):
-            self.setup.block_nr = blocks
-            if any(ring.was_held for rings in self.rings(Watched) for ring in rings):
-                last_held = blocks
+        for count in range(2, MOST_BLOCKS + 1):
+            self.setup.block_nr = self.setup.frame_nr = count
+            if any(ring.was_held for rings in self.rings(self.watched) for ring in rings):
+                last_held = count
         return last_held + 1

@@ -13,13 +13,14 @@ import running
 from second import hostile_captures, outcomes
 from second.capture_bytes import header, record
 from second.replays import frame
-from second.rings import Ring
 from second.size_cases import LONG, Judge, SizeCase, drawn, schedule
 from second.readers import MILLISECOND
-from second.sizes import Roomy, Timed, feeds_of
+from second.sizes import Timed, feeds_of
 
 RING = "block_size 4096\nblock_nr 2\nframe_size 2048\nframe_nr 4\ncpu in0.pcap\n"
+SLOTS = "block_size 4096\nblock_nr 2\nframe_size 4096\nframe_nr 2\ncpu in0.pcap\n"
 STRAY = 1_000_000  # the numbers of setups with a stray time begin there
+KINDS = pytest.mark.parametrize("has_slots", [False, True], ids=["blocks", "slots"])
 # Of frames of 1514 bytes two fit into a block. The microseconds at which they come, the reader, and
 # what follows by hand from the rules: the smallest ring, the least and the most that two blocks
 # drop, each with its phase and beginning.
@@ -41,6 +42,20 @@ BY_HAND = [
 ]
 
 
+# The same of a ring of two slots, each with one frame.
+SLOTS_BY_HAND = [
+    # a reader at 0 or 1 ms takes the first three, which come at once, before the others
+    ([0] * 3 + [1500] * 2, "pause 2", "3 phase 0 from 0", "1 phase 0 from 0", "1 phase 0 from 0"),
+    # one that reads every 5 ms begins at 0 or 1, and else when all five are there
+    ([0] * 3 + [1500] * 2, "pause 5", "5 phase 0 from 2", "1 phase 0 from 0", "3 phase 0 from 2"),
+    # it takes one slot in a millisecond, so the first two by 1 ms; of the other three two fit
+    (
+        [0, 0, 1500, 1500, 1500], "blocks 1000\nfrom 0", "3 phase 0 from 0", "1 phase 0 from 0",
+        "1 phase 0 from 0"
+    ),
+]
+
+
 @pytest.mark.parametrize(("times", "reader", "ring", "least", "most"), BY_HAND)
 def test_second_program_by_hand(
     times: list[int], reader: str, ring: str, least: str, most: str
@@ -49,6 +64,16 @@ def test_second_program_by_hand(
     lines = SizeCase(RING, reader, [capture]).sizing().lines().splitlines()
     assert lines[1:] == [
         f"member 0 blocks {ring}", f"group blocks {ring}",
+        f"member 0 drops least {least} most {most}"
+    ]
+
+
+@pytest.mark.parametrize(("times", "reader", "ring", "least", "most"), SLOTS_BY_HAND)
+def test_slots_by_hand(times: list[int], reader: str, ring: str, least: str, most: str) -> None:
+    capture = header() + b"".join(record(frame(1514), fraction=time) for time in times)
+    lines = SizeCase(SLOTS, f"{reader}\nslots", [capture]).sizing().lines().splitlines()
+    assert lines[1:] == [
+        f"member 0 slots {ring}", f"group slots {ring}",
         f"member 0 drops least {least} most {most}"
     ]
 
@@ -79,42 +104,52 @@ def agree(sizer: Path, room: Path, case: SizeCase) -> None:
     assert ended == status, case.shown()
 
 
-def test_answers(seed: int, sizer: Path, room: Path) -> None:
-    agree(sizer, room, drawn(seed))
+@KINDS
+def test_answers(seed: int, has_slots: bool, sizer: Path, room: Path) -> None:
+    agree(sizer, room, drawn(seed, has_slots=has_slots))
 
 
-def test_stray_times(seed: int, sizer: Path, room: Path) -> None:
+@KINDS
+def test_stray_times(seed: int, has_slots: bool, sizer: Path, room: Path) -> None:
     """One frame that is a minute, or years, before or after the others."""
-    agree(sizer, room, drawn(STRAY + seed, has_stray=True))
+    agree(sizer, room, drawn(STRAY + seed, has_stray=True, has_slots=has_slots))
 
 
-def test_schedule_written_out(seed: int) -> None:
+@KINDS
+def test_schedule_written_out(seed: int, has_slots: bool) -> None:
     """What the second program leaves out in a gap changes nothing: each line done alone gives the
     same rings."""
-    sizing = drawn(seed).sizing()
+    sizing = drawn(seed, has_slots=has_slots).sizing()
+    count = sizing.setup.frame_nr if has_slots else sizing.setup.block_nr
     for phase, begin in sizing.places:
-        whole = sizing.replay(Ring)
-        for line in schedule(sizing, sizing.setup.block_nr, phase, begin).splitlines():
+        whole = sizing.replay(sizing.own)
+        for line in schedule(sizing, count, phase, begin).splitlines():
             word, value = line.split()
             whole.line(word, int(value))
-        short = Timed(sizing.replay(Ring), sizing.reader, phase, begin).run()
+        short = Timed(sizing.replay(sizing.own), sizing.reader, phase, begin).run()
         assert [vars(ring) for ring in short] == [vars(ring) for ring in whole.rings]
 
 
-def test_by_trying_each_ring(seed: int) -> None:
-    """From 2 to 256 blocks, where a look that finds a block held is noted."""
-    sizing = drawn(seed).sizing()
-    needs = [max(ring.need for ring in rings) for rings in sizing.rings(Roomy)]
+@KINDS
+def test_by_trying_each_ring(seed: int, has_slots: bool) -> None:
+    """From 2 to 256 blocks, or slots, where a look that finds one held is noted."""
+    sizing = drawn(seed, has_slots=has_slots).sizing()
+    needs = [max(ring.need for ring in rings) for rings in sizing.rings(sizing.roomy)]
     assert sizing.by_trying() == sizing.smallest(needs).number
 
 
-def test_by_ringtap(seed: int, sizer: Path, program: Path, room: Path) -> None:
+@KINDS
+def test_by_ringtap(
+    seed: int, has_slots: bool, sizer: Path, program: Path, room: Path
+) -> None:
     """`ringtap replay` at each phase and beginning: the ring that is answered freezes nowhere, each
-    smaller one at its place, and the setup's own ring drops what is answered."""
-    case = drawn(seed)
+    smaller one at its place, and the setup's own ring drops what is answered. For slots it is
+    `replay2`, and a ring that is too small drops."""
+    case = drawn(seed, has_slots=has_slots)
     judge = Judge(program, room, case, case.sizing())
     printed, _ = printed_by(sizer, room, case)
-    answers = re.findall(r"^member (\d+) blocks (\d+) phase (\d+) from (\d+)", printed, re.M)
+    line = r"^member (\d+) (?:blocks|slots) (\d+) phase (\d+) from (\d+)"
+    answers = re.findall(line, printed, re.M)
     ranges = re.findall(r"^member \d+ drops least (.*) most (.*)", printed, re.M)
     assert (answers == []) == judge.sizing.setup.rolls_over()
     for (member, blocks, phase, begin), found in zip(answers, ranges, strict=True):
@@ -127,7 +162,8 @@ def test_by_ringtap(seed: int, sizer: Path, program: Path, room: Path) -> None:
 
 def test_setups_are_short() -> None:
     """So that their schedules can be written out."""
-    ends = [feeds_of(drawn(seed).sizing().replay(Ring).frames)[-1].moment for seed in range(50)]
+    sizings = [drawn(seed, has_slots=seed % 2 > 0).sizing() for seed in range(100)]
+    ends = [feeds_of(sizing.replay(sizing.own).frames)[-1].moment for sizing in sizings]
     assert max(ends) <= LONG * MILLISECOND
 
 
