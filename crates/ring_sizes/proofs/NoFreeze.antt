@@ -22,7 +22,7 @@ use Rattle.ring_sizes.proofs.Never.{all_grow, never_iff}
 use Rattle.ring_sizes.proofs.Runs.{totals_at}
 
 -- the course of a ring that never froze
-abbrev course_by : Pass → ℕ → Course
+abbrev pub course_by : Pass → ℕ → Course
 course_by pass kept = record {
   done = pass.done;
   used = pass.used;
@@ -36,7 +36,7 @@ course_by pass kept = record {
 }
 
 -- the ring is still the same, or it needs more blocks and froze
-abbrev StepIs : ℕ → Pass → Course → Type 0
+abbrev pub StepIs : ℕ → Pass → Course → Type 0
 StepIs blocks later course =
     ((later.least ≤ blocks) × (kept : ℕ) × (course ≡ course_by later kept))
     ⊎ ((blocks < later.least) × (0 < course.freezes))
@@ -157,7 +157,7 @@ module _ (room blocks tov : ℕ) where
   read_by true pass kept few = inl (few, kept, refl)
   read_by false pass kept few = inl (few, kept, refl)
 
-  step_is : (event : Event) (pass : Pass) (kept : ℕ) → pass.least ≤ blocks
+  pub step_is : (event : Event) (pass : Pass) (kept : ℕ) → pass.least ≤ blocks
       → StepIs blocks (passed room tov event pass) (went_on room blocks tov event (course_by pass kept))
   step_is (Packet need) pass kept few =
       fed_is pass.done pass.used pass.clock pass.deadline pass.released pass.least kept need pass.empty few

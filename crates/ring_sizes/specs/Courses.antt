@@ -1,5 +1,5 @@
 -- One pass over the events of a ring of a given size.
-use Rattle.std.specs.Prelude.{ℕ, ◌+◌, ◌<◌, ◌≤◌, ◌^◌, Bool, true, false, nat_lt, nat_le}
+use Rattle.std.specs.Prelude.{ℕ, ◌+◌, ◌<◌, ◌≤◌, ◌^◌, Bool, true, false, nat_lt, nat_le, not}
 use Rattle.std.specs.Prelude.{if◌then◌else◌}
 use Rattle.std.specs.Prelude.{List, [], ◌∷◌}
 use Rattle.ring_model.specs.declared.notes.Stats.{Stats}
@@ -83,6 +83,13 @@ at_due blocks block course =
       block = Frozen;
       freezes = course.freezes + opened course.block;
     }
+
+-- a tick changes nothing but the clock and the deadline: the open block is empty, or there is none
+-- and the next one is still the reader's
+abbrev pub is_idle : ℕ → CourseBlock → Course → Bool
+is_idle blocks Frozen course = not (is_free blocks course)
+is_idle blocks Empty course = true
+is_idle blocks Filled course = false
 
 abbrev pub over_time : ℕ → ℕ → ℕ → Course → Course
 over_time blocks tov ms course =

@@ -6,7 +6,7 @@ ghost use Rattle.ring_model.specs.Fates.{totals_of};
 ghost use Rattle.ring_model.specs.Ring.{Size};
 ghost use Rattle.ring_model.specs.Rings.{fresh};
 ghost use Rattle.ring_sizes.specs.Courses.{IsSmall, at_due, course_stats, fed, first_course};
-ghost use Rattle.ring_sizes.specs.Courses.{is_free, opened, over_time, went_on};
+ghost use Rattle.ring_sizes.specs.Courses.{is_free, is_idle, opened, over_time, went_on};
 ghost use Rattle.ring_sizes.specs.EventLists.{events_of};
 ghost use Rattle.ring_sizes.specs.Rests.{course_read, is_still};
 
@@ -162,6 +162,26 @@ impl Course {
         ensures { result ≡ is_still ms self.now }
     {
         matches!(self.block, CourseBlock::Empty) && self.deadline <= u128::from(ms)
+    }
+
+    /// Retired blocks.
+    pub fn done(&self) -> u64
+        ensures { result ≡ self.now.done }
+    {
+        self.done
+    }
+
+    /// Whether a tick changes nothing but the clock and the deadline: the open block is empty, or
+    /// there is none, and the next one is still the reader's.
+    pub fn is_idle(&self, blocks: u32) -> bool
+        requires { IsSmall (2 ^ 63) self.now }
+        ensures { result ≡ is_idle blocks self.now.block self.now }
+    {
+        match self.block {
+            CourseBlock::Empty => true,
+            CourseBlock::Frozen => !self.is_free(blocks),
+            CourseBlock::Filled => false,
+        }
     }
 
     /// Takes a block's time-out.

@@ -69,6 +69,13 @@ impl Pass {
         self.least
     }
 
+    /// Retired blocks.
+    pub fn done(&self) -> u64
+        ensures { result ≡ self.now.done }
+    {
+        self.done
+    }
+
     /// Takes one more event.
     pub fn take(&mut self, event: Event, room: u32, tov: u64)
         requires { IsWithin (2 ^ 63) self.old }
