@@ -6,4 +6,6 @@ mod event_lists;
 #[cfg(test)]
 mod paced_frames;
 #[cfg(test)]
+mod polled_frames;
+#[cfg(test)]
 mod slots;

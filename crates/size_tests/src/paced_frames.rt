@@ -6,10 +6,10 @@ use ring_sizes::{
     losses_of_all,
 };
 
-const ROOM: u32 = 1000;
+pub(crate) const ROOM: u32 = 1000;
 
 /// The last frame of another ring comes later than each of these.
-const END: u64 = 75_000_000;
+pub(crate) const END: u64 = 75_000_000;
 
 const TRIES: Tries = Tries {
     first_phase: 0,
@@ -18,7 +18,7 @@ const TRIES: Tries = Tries {
     from_end: 6,
 };
 
-const ARRIVALS: [Arrival; 11] = [
+pub(crate) const ARRIVALS: [Arrival; 11] = [
     Arrival { at: 0, need: 400 },
     Arrival {
         at: 4_200_000,

@@ -1,0 +1,9 @@
+pub mod WakeMoments
+pub mod Runs
+pub mod Skips
+pub mod PassTicks
+pub mod CourseTicks
+pub mod OwnEvents
+pub mod PollStretches
+pub mod PollFrames
+pub mod PollMoments

@@ -1,0 +1,4 @@
+pub mod Wakes
+pub mod Beats
+pub mod Polls
+pub mod PollPhases
