@@ -125,13 +125,13 @@ module _ (size : Size) where
   count_is (Some []) = refl
   count_is (Some (offer ∷ offers)) = refl
 
-  room_is : (need : ℕ) (now : Option (List Offer))
+  pub room_is : (need : ℕ) (now : Option (List Offer))
       → has_space size.room need (used_now now) (block_of now) ≡ has_room size need now
   room_is need None = refl
   room_is need (Some []) = refl
   room_is need (Some (offer ∷ offers)) = refl
 
-  free_at : (s : State) (back : ℕ) → is_free size.blocks (course_of s back) ≡ not (nat_lt back (next_number s - size.blocks))
+  pub free_at : (s : State) (back : ℕ) → is_free size.blocks (course_of s back) ≡ not (nat_lt back (next_number s - size.blocks))
   free_at s back =
       ap (λ (n : ℕ). nat_le (length s.done + n + 1) (back + size.blocks)) (sym (count_is s.now))
       ∙ free_is (next_number s) back size.blocks

@@ -87,7 +87,7 @@ module _ (size : Size) where
 
   -- ---- no statistics are taken on the way
 
-  abbrev IsUncounted : Note → Type 0
+  abbrev pub IsUncounted : Note → Type 0
   IsUncounted Counted = ⊥
   IsUncounted note = Unit {0}
 
@@ -108,12 +108,12 @@ module _ (size : Size) where
   one_stretch s (Counted ∷ notes) h = absurd (All-head IsUncounted Counted notes h)
   one_stretch s (Finished ∷ notes) h = one_stretch (after size s Finished) notes (All-tail IsUncounted Finished notes h)
 
-  put_plain : (offer : Offer) (found : Found) → IsUncounted (put_by offer found)
+  pub put_plain : (offer : Offer) (found : Found) → IsUncounted (put_by offer found)
   put_plain offer NotAsked = tt
   put_plain offer Free = tt
   put_plain offer (Held number) = tt
 
-  push_plain : (notes : List Note) (note : Note) → All IsUncounted notes → IsUncounted note
+  pub push_plain : (notes : List Note) (note : Note) → All IsUncounted notes → IsUncounted note
       → All IsUncounted (notes ++ note ∷ [])
   push_plain notes note h plain = All-append IsUncounted notes (note ∷ []) h (All-cons IsUncounted note [] plain
       (All-nil IsUncounted))
@@ -155,7 +155,7 @@ module _ (size : Size) where
       (omega (arith, sum_by-cons (λ (s : Stats). s.drops) stats []))
       (omega (arith, sum_by-cons (λ (s : Stats). s.freezes) stats []))
 
-  totals_are : (notes : List Note) → All IsUncounted notes → stats_of (state_of size notes) ≡ totals_of size notes
+  pub totals_are : (notes : List Note) → All IsUncounted notes → stats_of (state_of size notes) ≡ totals_of size notes
   totals_are notes h = sym (ap sum_of (one_stretch (first_state size) notes h) ∙ sum_one (stats_of (state_of size notes)))
 
 pub totals_at : (room blocks tov : ℕ) (all : List Happening) (items : List Event) (course : Course) → events_of all ≡ items

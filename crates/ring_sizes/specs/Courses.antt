@@ -1,6 +1,6 @@
 -- One pass over the events of a ring of a given size.
 use Rattle.std.specs.Prelude.{ℕ, ◌+◌, ◌<◌, ◌≤◌, ◌^◌, Bool, true, false, nat_lt, nat_le, not}
-use Rattle.std.specs.Prelude.{if◌then◌else◌}
+use Rattle.std.specs.Prelude.{if◌then◌else◌, ◌||◌}
 use Rattle.std.specs.Prelude.{List, [], ◌∷◌}
 use Rattle.ring_model.specs.declared.notes.Stats.{Stats}
 use Rattle.ring_sizes.specs.declared.events.Event.{Event}
@@ -50,6 +50,11 @@ has_space room need used block = nat_le (used + need) room
 abbrev pub is_free : ℕ → Course → Bool
 is_free blocks course =
     nat_le (course.done + opened course.block + 1) (course.released + blocks)
+
+-- a packet of this need is kept: it goes into the open block, or the next one is free
+abbrev pub takes : ℕ → ℕ → ℕ → Course → Bool
+takes room blocks need course =
+    has_space room need course.used course.block || is_free blocks course
 
 abbrev pub fed : ℕ → ℕ → ℕ → ℕ → Course → Course
 fed room blocks tov need course =

@@ -6,7 +6,7 @@ ghost use Rattle.ring_model.specs.Fates.{totals_of};
 ghost use Rattle.ring_model.specs.Ring.{Size};
 ghost use Rattle.ring_model.specs.Rings.{fresh};
 ghost use Rattle.ring_sizes.specs.Courses.{IsSmall, at_due, course_stats, fed, first_course};
-ghost use Rattle.ring_sizes.specs.Courses.{is_free, is_idle, opened, over_time, went_on};
+ghost use Rattle.ring_sizes.specs.Courses.{is_free, is_idle, opened, over_time, takes, went_on};
 ghost use Rattle.ring_sizes.specs.EventLists.{events_of};
 ghost use Rattle.ring_sizes.specs.Rests.{course_read, is_still};
 
@@ -117,6 +117,15 @@ impl Course {
         } else if 0 < steps {
             self.released = self.done;
         }
+    }
+
+    /// Whether it keeps a packet that takes so many bytes of a block.
+    pub fn takes(&self, need: u32, room: u32, blocks: u32) -> bool
+        requires { IsSmall (2 ^ 63) self.now }
+        ensures { result ≡ takes room blocks need self.now }
+    {
+        let fits = self.used + u64::from(need) <= u64::from(room);
+        self.opened() == 1 && fits || self.is_free(blocks)
     }
 
     /// Takes a packet.

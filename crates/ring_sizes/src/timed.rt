@@ -89,7 +89,7 @@ pub fn timed_pass(
 impl Timing {
     /// A moment; before a frame that comes before it, and after one at `at`, neither a tick nor a
     /// step comes.
-    pub(crate) fn quiet_until(&self, at: u64) -> u64
+    pub fn quiet_until(&self, at: u64) -> u64
         requires sound { IsPace self.now }
         requires early { at ≤ 2 ^ 53 }
         ensures { IsQuiet self.now at result }

@@ -87,7 +87,7 @@ impl Course {
     /// Takes what the timer and the reader do from one moment on: the ticks up to this number, and
     /// the steps before another moment. It takes no longer than the ticks up to one that leaves an
     /// empty block.
-    fn rest(
+    pub fn rest(
         &mut self,
         blocks: u32,
         pace: &Timing,
