@@ -4,6 +4,8 @@
 #[cfg(test)]
 mod event_lists;
 #[cfg(test)]
+mod group_drops;
+#[cfg(test)]
 mod paced_frames;
 #[cfg(test)]
 mod polled_frames;
