@@ -140,6 +140,10 @@ def test_one_voice(here: Here) -> None:
         answer = here.with_program(name, "nobody.txt", *words)
         assert (answer.printed, answer.status) == ("", 1), name
         assert answer.said.startswith(f"{name}: nobody.txt, line 5: "), name
+    here.text("private.txt", BLOCK + "priv 99999\ncpu a.pcap\n")
+    for words in (["ring_size.py"], ["ring_size.py", "--lost", "3"], ["schedule.py", "--poll"]):
+        answer = here.with_program(words[0], "private.txt", *words[1:])
+        assert "a private area has 0 to 1024 bytes" in answer.said and answer.status == 1, words
     said = here.with_program("lost.py", "fine.txt", "wrong.sched").said
     assert 'wrong.sched, line 2: "read 7": fine.txt has one member, which is 0' in said
     said = here.with_program("ring_size.py", "fine.txt", "--mode", "cluster_flow").said

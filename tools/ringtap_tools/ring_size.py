@@ -775,6 +775,12 @@ def lost_explained(
     return print_explained(args, ring, found)
 
 
+def refuse_rings(room: Room, grid: list[Ring]) -> None:
+    """Ends the tool where the program has not one of the rings."""
+    for ring in grid:
+        room.refuse(changes_of(ring, "rollover" in room.setup.flags, "nowhere"))
+
+
 def main(words: list[str]) -> int:
     args = parser_of().parse_args(words)
     program, setup = program_of(args.program), setup_of(args.inputs, args.replay2)
@@ -789,6 +795,8 @@ def main(words: list[str]) -> int:
             if instructions:
                 take_filter(setup, instructions, folder)
             with Room(setup, program) as room:
+                if not args.replay2:  # before the model counts with what no ring has
+                    refuse_rings(room, grid)
                 if args.lost is not None:
                     return lost_explained(room, args, pace, setup, grid)
                 answer = found(room, args, pace, setup, grid)

@@ -256,6 +256,13 @@ class Room:
         )
         write_text(self.folder / name, text)
 
+    def refuse(self, changes: dict[str, str | None]) -> None:
+        """Ends the tool where the program refuses the setup with these values."""
+        self.write_setup("checked", changes)
+        done = run_program(self.program, ["check", "checked"], self.folder, dict(os.environ))
+        if done.returncode:
+            raise Fault(self.refused(done, "replay", "checked", "checked"))
+
     def replay(self, setup: str, schedule: str, command: str = "replay") -> Report:
         """Makes a run, and returns what it printed. A capture with damage is no fault: it is run up
         to there."""

@@ -312,6 +312,8 @@ def polled(setup: Setup, pace: Pace, args: argparse.Namespace) -> str:
     sizes = [setup.number(word) for word in ("block_size", "block_nr", "frame_size")]
     ring = Ring(mode, setup.members(), setup.number("tov", 0), *sizes, args.replay2)
     with Room(setup, program_of(args.program)) as room:
+        if not args.replay2:
+            room.refuse({})
         fed = feeds(room.streams(), pace)
         reads = Model(room, fed, pace).reads(ring, pace.phase)
     return schedule_of(fed, pace, shape_of(setup, args.replay2), reads)
