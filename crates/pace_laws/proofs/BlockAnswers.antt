@@ -1,5 +1,5 @@
 -- What the passes of ring_sizes report is so of each replay over rings of blocks.
-use Rattle.std.proofs.Common.{◌≡◌, ◌↔◌, ℕ, ◌≤◌, ◌<◌, ◌^◌, false, arith}
+use Rattle.std.proofs.Common.{◌≡◌, ◌↔◌, ℕ, ◌≤◌, ◌<◌, ◌^◌, false, length, arith}
 use Rattle.std.specs.Prelude.{All}
 use Rattle.fanout_group.specs.Rules.{rolls_over}
 use Rattle.ring_events.specs.Happenings.{IsNeverHeld}
@@ -10,7 +10,8 @@ use Rattle.ring_sizes.specs.declared.paces.Timing.{Timing}
 use Rattle.ring_sizes.specs.declared.tries.Reached.{Reached}
 use Rattle.ring_sizes.specs.declared.tries.Tries.{Tries}
 use Rattle.ring_sizes.proofs.Worsts.{tried_pace}
-use Rattle.pace_laws.specs.LeastRings.{AreDropsBy, IsLeastOfGroup, IsLeastRing, drops_at, group_least_at, least_at, stats_at}
+use Rattle.pace_laws.specs.LeastRings.{AreFirstBy, Drops, IsLeastOfGroup, IsLeastRing, TotalDrops, drops_at, group_least_at}
+use Rattle.pace_laws.specs.LeastRings.{least_at, stats_at, total_drops_at}
 use Rattle.pace_laws.specs.Sizings.{HadEvents, InGroup, InReplay, IsSizing, Sizing, blocks_with, events_at, size_with}
 use Rattle.pace_laws.proofs.GroupAnswers as groups
 use Rattle.pace_laws.proofs.LeastAnswers as least
@@ -58,6 +59,12 @@ module _ (sizing : Sizing) (pace : Timing) (sizing_is : IsSizing sizing pace) wh
       (λ member. blocks_had sizing pace (of_blocks sizing pace sizing_is) blocks phase from member sound some)
       (λ member ring. free_iff sizing pace sizing_is.pace_is member blocks phase from ring some)
 
+  all_there : (rolls : rolls_over sizing.rules ≡ false) (blocks phase from : ℕ) → IsPace (begun pace phase from)
+      → 1 ≤ blocks → InGroup (λ rings. length rings ≡ sizing.rules.members) sizing (blocks_with sizing blocks) phase from
+  all_there rolls blocks phase from sound some =
+      members_are sizing (blocks_with sizing blocks) 0 phase from (events_at sizing pace 0 phase from) rolls
+      (blocks_had sizing pace (of_blocks sizing pace sizing_is) blocks phase from 0 sound some)
+
   has_run : (rolls : rolls_over sizing.rules ≡ false) (member blocks phase from : ℕ) → IsPace (begun pace phase from)
       → 1 ≤ blocks → IsRun sizing (blocks_with sizing blocks) phase from
   has_run rolls member blocks phase from sound some =
@@ -93,11 +100,22 @@ module _ (sizing : Sizing) (pace : Timing) (sizing_is : IsSizing sizing pace) wh
 
     pub are_drops : (Best Better : ℕ → ℕ → Type 0) (rolls : rolls_over sizing.rules ≡ false) (member blocks : ℕ)
         (found : Reached) → 1 ≤ blocks → IsFirst Best Better tries (drops_at sizing pace member blocks) found
-        → AreDropsBy Best Better (totals_of (size_with sizing blocks)) sizing (blocks_with sizing blocks) member tries found
+        → AreFirstBy Best Better (λ P phase from. Drops P (totals_of (size_with sizing blocks)) sizing
+        (blocks_with sizing blocks) member phase from) tries found
     are_drops Best Better rolls member blocks found some h =
-        least.are_drops Best Better (totals_of (size_with sizing blocks)) sizing (blocks_with sizing blocks) member tries
-        (stats_at sizing pace member blocks) found
+        least.are_drops Best Better (totals_of (size_with sizing blocks)) sizing (blocks_with sizing blocks) tries found member
+        (stats_at sizing pace member blocks)
         (λ phase from p b. counts rolls member blocks phase from (sound_at pace tries phase from tried soon p b) some) h
+
+    pub are_total_drops : (Best Better : ℕ → ℕ → Type 0) (rolls : rolls_over sizing.rules ≡ false) (blocks : ℕ)
+        (found : Reached) → 1 ≤ blocks → IsFirst Best Better tries (total_drops_at sizing pace blocks) found
+        → AreFirstBy Best Better (λ P phase from. TotalDrops P (totals_of (size_with sizing blocks)) sizing
+        (blocks_with sizing blocks) phase from) tries found
+    are_total_drops Best Better rolls blocks found some h =
+        least.are_total_drops Best Better (totals_of (size_with sizing blocks)) sizing (blocks_with sizing blocks) tries found
+        (λ member phase from. stats_at sizing pace member blocks phase from)
+        (λ member phase from p b. counts rolls member blocks phase from (sound_at pace tries phase from tried soon p b) some)
+        (λ phase from p b. all_there rolls blocks phase from (sound_at pace tries phase from tried soon p b) some) h
 
     pub is_group_least : (found : Reached) → IsFirstMost tries (group_least_at sizing pace) found
         → IsLeastOfGroup sizing tries found

@@ -20,6 +20,7 @@ pub mod TextReads
 pub mod MemberRuns
 pub mod SizingRuns
 pub mod RingAnswers
+pub mod Sums
 pub mod LeastAnswers
 pub mod GroupAnswers
 pub mod BlockAnswers

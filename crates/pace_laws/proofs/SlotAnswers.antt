@@ -1,5 +1,5 @@
 -- What the passes of slot_sizes report is so of each replay over rings of slots.
-use Rattle.std.proofs.Common.{◌≡◌, ◌↔◌, ℕ, ◌≤◌, ◌<◌, ◌^◌, false, true}
+use Rattle.std.proofs.Common.{◌≡◌, ◌↔◌, ℕ, ◌≤◌, ◌<◌, ◌^◌, false, true, length}
 use Rattle.std.specs.Prelude.{All}
 use Rattle.fanout_group.specs.Rules.{rolls_over}
 use Rattle.slot_layout.specs.SlotFates.{slot_totals_of}
@@ -9,8 +9,8 @@ use Rattle.ring_sizes.specs.Schedules.{IsPace}
 use Rattle.ring_sizes.specs.declared.paces.Timing.{Timing}
 use Rattle.ring_sizes.specs.declared.tries.Reached.{Reached}
 use Rattle.ring_sizes.specs.declared.tries.Tries.{Tries}
-use Rattle.pace_laws.specs.LeastRings.{AreDropsBy, AreLeastSlots, AreLeastSlotsOfGroup, group_slots_at, least_slots_by}
-use Rattle.pace_laws.specs.LeastRings.{slot_drops_at, slot_stats_at}
+use Rattle.pace_laws.specs.LeastRings.{AreFirstBy, AreLeastSlots, AreLeastSlotsOfGroup, Drops, TotalDrops, group_slots_at}
+use Rattle.pace_laws.specs.LeastRings.{least_slots_by, slot_drops_at, slot_stats_at, total_slot_drops_at}
 use Rattle.pace_laws.specs.Sizings.{HadEvents, InGroup, InReplay, IsSlotSizing, Sizing, slot_events_at, slots_with}
 use Rattle.pace_laws.proofs.BlockAnswers.{sound_at}
 use Rattle.pace_laws.proofs.GroupAnswers as groups
@@ -52,6 +52,12 @@ module _ (sizing : Sizing) (pace : Timing) (sizing_is : IsSlotSizing sizing pace
       (λ member. slots_had sizing pace (of_slots sizing pace sizing_is) slots phase from member sound)
       (λ member ring. slots_free_iff sizing pace member slots phase from ring some)
 
+  all_there : (rolls : rolls_over sizing.rules ≡ false) (slots phase from : ℕ) → IsPace (begun pace phase from)
+      → InGroup (λ rings. length rings ≡ sizing.rules.members) sizing (slots_with sizing slots) phase from
+  all_there rolls slots phase from sound =
+      members_are sizing (slots_with sizing slots) 0 phase from (slot_events_at sizing pace 0 phase from) rolls
+      (slots_had sizing pace (of_slots sizing pace sizing_is) slots phase from 0 sound)
+
   has_run : (rolls : rolls_over sizing.rules ≡ false) (member slots phase from : ℕ) → IsPace (begun pace phase from)
       → IsRun sizing (slots_with sizing slots) phase from
   has_run rolls member slots phase from sound =
@@ -87,11 +93,22 @@ module _ (sizing : Sizing) (pace : Timing) (sizing_is : IsSlotSizing sizing pace
 
     pub are_drops : (Best Better : ℕ → ℕ → Type 0) (rolls : rolls_over sizing.rules ≡ false) (member slots : ℕ)
         (found : Reached) → IsFirst Best Better tries (slot_drops_at sizing pace member slots) found
-        → AreDropsBy Best Better slot_totals_of sizing (slots_with sizing slots) member tries found
+        → AreFirstBy Best Better (λ P phase from. Drops P slot_totals_of sizing (slots_with sizing slots) member phase
+        from) tries found
     are_drops Best Better rolls member slots found h =
-        least.are_drops Best Better slot_totals_of sizing (slots_with sizing slots) member tries
-        (slot_stats_at sizing pace member slots) found
+        least.are_drops Best Better slot_totals_of sizing (slots_with sizing slots) tries found member
+        (slot_stats_at sizing pace member slots)
         (λ phase from p b. counts rolls member slots phase from (sound_at pace tries phase from tried soon p b)) h
+
+    pub are_total_drops : (Best Better : ℕ → ℕ → Type 0) (rolls : rolls_over sizing.rules ≡ false) (slots : ℕ)
+        (found : Reached) → IsFirst Best Better tries (total_slot_drops_at sizing pace slots) found
+        → AreFirstBy Best Better (λ P phase from. TotalDrops P slot_totals_of sizing (slots_with sizing slots) phase from)
+        tries found
+    are_total_drops Best Better rolls slots found h =
+        least.are_total_drops Best Better slot_totals_of sizing (slots_with sizing slots) tries found
+        (λ member phase from. slot_stats_at sizing pace member slots phase from)
+        (λ member phase from p b. counts rolls member slots phase from (sound_at pace tries phase from tried soon p b))
+        (λ phase from p b. all_there rolls slots phase from (sound_at pace tries phase from tried soon p b)) h
 
     pub is_group_least : (found : Reached) → IsFirstMost tries (group_slots_at sizing pace) found
         → AreLeastSlotsOfGroup sizing tries found

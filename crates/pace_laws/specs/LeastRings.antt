@@ -1,6 +1,7 @@
--- The least ring of a member and of a group, and the most and the fewest packets that a member
--- drops, over phases of the timer and beginnings of the reader.
+-- The least ring of a member and of a group, and the most and the fewest packets that a member and
+-- all members together drop, over phases of the timer and beginnings of the reader.
 use Rattle.std.specs.Prelude.{◌≡◌, ℕ, zero, suc, ◌+◌, ◌<◌, ◌≤◌, max, List, All}
+use Rattle.std.specs.List.{sum_by}
 use Rattle.pace_laws.specs.Paces.{stalls_of}
 use Rattle.pace_laws.specs.Sizings.{InGroup, InReplay, Sizing, blocks_with, events_at, given_to}
 use Rattle.pace_laws.specs.Sizings.{size_with, slot_events_at, slots_with}
@@ -134,49 +135,89 @@ abbrev pub Drops :
 Drops P totals sizing steps member phase from =
     InReplay (λ ring. P (totals ring.notes).drops) sizing steps member phase from
 
--- of the phases and beginnings that are tried, those found are the first at which the member drops
--- so many packets; at each other one the number stands so to it, and at each earlier one so
-pub record AreDropsBy (Best Better : ℕ → ℕ → Type 0) (totals : List Note → Stats)
-    (sizing : Sizing) (steps : RingSteps) (member : ℕ) (tries : Tries) (found : Reached)
-    : Type 0 where
+-- of the phases and beginnings that are tried, those found are the first at which a number of
+-- replays is reached; at each other one the number stands so to it, and at each earlier one so
+pub record AreFirstBy (Best Better : ℕ → ℕ → Type 0) (Has : (ℕ → Type 0) → ℕ → ℕ → Type 0)
+    (tries : Tries) (found : Reached) : Type 0 where
   pub phase : IsPhase tries found.phase
   pub from : IsBeginning tries found.from
-  pub reached : Drops (λ drops. drops ≡ found.number) totals sizing steps member found.phase
-      found.from
+  pub reached : Has (λ number. number ≡ found.number) found.phase found.from
   pub best : (phase from : ℕ) → IsPhase tries phase → IsBeginning tries from
-      → Drops (Best found.number) totals sizing steps member phase from
+      → Has (Best found.number) phase from
   pub first : (phase from : ℕ) → IsPhase tries phase → IsBeginning tries from
-      → IsEarlier phase from found
-      → Drops (Better found.number) totals sizing steps member phase from
+      → IsEarlier phase from found → Has (Better found.number) phase from
 
--- the most packets that are dropped
-abbrev pub AreMost :
-    (List Note → Stats) → Sizing → RingSteps → ℕ → Tries → Reached → Type 0
-AreMost totals sizing steps member tries found =
-    AreDropsBy (λ number other. other ≤ number) (λ number other. other < number) totals sizing
-    steps member tries found
+-- the first of the greatest numbers
+abbrev pub AreMostBy : ((ℕ → Type 0) → ℕ → ℕ → Type 0) → Tries → Reached → Type 0
+AreMostBy Has tries found =
+    AreFirstBy (λ number other. other ≤ number) (λ number other. other < number) Has tries found
 
--- the fewest packets that are dropped
-abbrev pub AreFewest :
-    (List Note → Stats) → Sizing → RingSteps → ℕ → Tries → Reached → Type 0
-AreFewest totals sizing steps member tries found =
-    AreDropsBy (λ number other. number ≤ other) (λ number other. number < other) totals sizing
-    steps member tries found
+-- and of the least
+abbrev pub AreFewestBy : ((ℕ → Type 0) → ℕ → ℕ → Type 0) → Tries → Reached → Type 0
+AreFewestBy Has tries found =
+    AreFirstBy (λ number other. number ≤ other) (λ number other. number < other) Has tries found
 
+-- the most and the fewest packets that a member drops
 abbrev pub AreMostDrops : Sizing → ℕ → ℕ → Tries → Reached → Type 0
 AreMostDrops sizing member blocks tries found =
-    AreMost (totals_of (size_with sizing blocks)) sizing (blocks_with sizing blocks) member tries
-    found
+    AreMostBy (λ P phase from. Drops P (totals_of (size_with sizing blocks)) sizing
+    (blocks_with sizing blocks) member phase from) tries found
 
 abbrev pub AreFewestDrops : Sizing → ℕ → ℕ → Tries → Reached → Type 0
 AreFewestDrops sizing member blocks tries found =
-    AreFewest (totals_of (size_with sizing blocks)) sizing (blocks_with sizing blocks) member tries
-    found
+    AreFewestBy (λ P phase from. Drops P (totals_of (size_with sizing blocks)) sizing
+    (blocks_with sizing blocks) member phase from) tries found
 
 abbrev pub AreMostSlotDrops : Sizing → ℕ → ℕ → Tries → Reached → Type 0
 AreMostSlotDrops sizing member slots tries found =
-    AreMost slot_totals_of sizing (slots_with sizing slots) member tries found
+    AreMostBy (λ P phase from. Drops P slot_totals_of sizing (slots_with sizing slots) member
+    phase from) tries found
 
 abbrev pub AreFewestSlotDrops : Sizing → ℕ → ℕ → Tries → Reached → Type 0
 AreFewestSlotDrops sizing member slots tries found =
-    AreFewest slot_totals_of sizing (slots_with sizing slots) member tries found
+    AreFewestBy (λ P phase from. Drops P slot_totals_of sizing (slots_with sizing slots) member
+    phase from) tries found
+
+-- ---- what the whole group loses
+
+-- the sum of the numbers of so many members, 0 of none
+abbrev pub total_of : (ℕ → ℕ) → ℕ → ℕ
+total_of number_of zero = 0
+total_of number_of (suc member) = total_of number_of member + number_of member
+
+-- the packets that the courses over the members' frames drop together, for so many blocks each
+abbrev pub total_drops_at : Sizing → Timing → ℕ → ℕ → ℕ → ℕ
+total_drops_at sizing pace blocks phase from =
+    total_of (λ member. drops_at sizing pace member blocks phase from) sizing.rules.members
+
+-- the same for so many slots
+abbrev pub total_slot_drops_at : Sizing → Timing → ℕ → ℕ → ℕ → ℕ
+total_slot_drops_at sizing pace slots phase from =
+    total_of (λ member. slot_drops_at sizing pace member slots phase from) sizing.rules.members
+
+-- the number of packets that all rings of the group drop together, by these statistics of their
+-- notes, is such a one
+abbrev pub TotalDrops : (ℕ → Type 0) → (List Note → Stats) → Sizing → RingSteps → ℕ → ℕ → Type 0
+TotalDrops P totals sizing steps phase from =
+    InGroup (λ rings. P (sum_by (λ ring. (totals ring.notes).drops) rings)) sizing steps phase from
+
+-- the most and the fewest packets that all members together drop
+abbrev pub AreMostTotalDrops : Sizing → ℕ → Tries → Reached → Type 0
+AreMostTotalDrops sizing blocks tries found =
+    AreMostBy (λ P phase from. TotalDrops P (totals_of (size_with sizing blocks)) sizing
+    (blocks_with sizing blocks) phase from) tries found
+
+abbrev pub AreFewestTotalDrops : Sizing → ℕ → Tries → Reached → Type 0
+AreFewestTotalDrops sizing blocks tries found =
+    AreFewestBy (λ P phase from. TotalDrops P (totals_of (size_with sizing blocks)) sizing
+    (blocks_with sizing blocks) phase from) tries found
+
+abbrev pub AreMostTotalSlotDrops : Sizing → ℕ → Tries → Reached → Type 0
+AreMostTotalSlotDrops sizing slots tries found =
+    AreMostBy (λ P phase from. TotalDrops P slot_totals_of sizing (slots_with sizing slots)
+    phase from) tries found
+
+abbrev pub AreFewestTotalSlotDrops : Sizing → ℕ → Tries → Reached → Type 0
+AreFewestTotalSlotDrops sizing slots tries found =
+    AreFewestBy (λ P phase from. TotalDrops P slot_totals_of sizing (slots_with sizing slots)
+    phase from) tries found

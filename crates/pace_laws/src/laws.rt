@@ -4,7 +4,8 @@ ghost use Rattle.std.specs.Prelude.{◌≡◌, ◌↔◌, ◌<◌, ◌≤◌, �
 ghost use Rattle.fanout_group.specs.Rules.{rolls_over};
 ghost use Rattle.pace_laws.specs.LeastRings.{AreFewestDrops, AreMostDrops, IsLeastOfGroup};
 ghost use Rattle.pace_laws.specs.LeastRings.{IsLeastRing, drops_at, group_least_at, least_at};
-ghost use Rattle.pace_laws.specs.LeastRings.{stats_at};
+ghost use Rattle.pace_laws.specs.LeastRings.{AreFewestTotalDrops, AreMostTotalDrops};
+ghost use Rattle.pace_laws.specs.LeastRings.{stats_at, total_drops_at};
 ghost use Rattle.pace_laws.specs.Sizings.{HadEvents, InGroup, InReplay, IsSizing, Sizing};
 ghost use Rattle.pace_laws.specs.Sizings.{blocks_with, events_at, size_with};
 ghost use Rattle.ring_events.specs.Happenings.{IsNeverHeld};
@@ -114,4 +115,20 @@ pub fn the_drops_of_courses_are_those_of_replays()
         → IsSizing sizing pace → AreTried pace tries → tries.from_end ≤ 2 ^ 32 → 1 ≤ blocks
         → IsFirstFewest tries (drops_at sizing pace member blocks) found
         → AreFewestDrops sizing member blocks tries found }
+{}
+
+/// And those that the courses over all members' frames drop together are those that all members
+/// together drop.
+pub fn the_total_drops_of_courses_are_those_of_replays()
+    ensures most { (sizing : Sizing) (pace : Timing) (tries : Tries) (found : Reached) (blocks : ℕ)
+        → rolls_over sizing.rules ≡ false
+        → IsSizing sizing pace → AreTried pace tries → tries.from_end ≤ 2 ^ 32 → 1 ≤ blocks
+        → IsFirstMost tries (total_drops_at sizing pace blocks) found
+        → AreMostTotalDrops sizing blocks tries found }
+    ensures fewest { (sizing : Sizing) (pace : Timing) (tries : Tries) (found : Reached)
+        (blocks : ℕ)
+        → rolls_over sizing.rules ≡ false
+        → IsSizing sizing pace → AreTried pace tries → tries.from_end ≤ 2 ^ 32 → 1 ≤ blocks
+        → IsFirstFewest tries (total_drops_at sizing pace blocks) found
+        → AreFewestTotalDrops sizing blocks tries found }
 {}

@@ -6,7 +6,8 @@ ghost use Rattle.fanout_group.specs.Rules.{rolls_over};
 ghost use Rattle.pace_laws.specs.LeastRings.{AreFewestSlotDrops, AreLeastSlots};
 ghost use Rattle.pace_laws.specs.LeastRings.{AreLeastSlotsOfGroup, AreMostSlotDrops};
 ghost use Rattle.pace_laws.specs.LeastRings.{group_slots_at, least_slots_by, slot_drops_at};
-ghost use Rattle.pace_laws.specs.LeastRings.{slot_stats_at};
+ghost use Rattle.pace_laws.specs.LeastRings.{AreFewestTotalSlotDrops, AreMostTotalSlotDrops};
+ghost use Rattle.pace_laws.specs.LeastRings.{slot_stats_at, total_slot_drops_at};
 ghost use Rattle.pace_laws.specs.Sizings.{HadEvents, InGroup, InReplay, IsSlotSizing, Sizing};
 ghost use Rattle.pace_laws.specs.Sizings.{slot_events_at, slots_with};
 ghost use Rattle.ring_events.specs.Happenings.{IsNeverHeld};
@@ -113,4 +114,20 @@ pub fn the_drops_of_slot_courses_are_those_of_replays()
         → IsSlotSizing sizing pace → AreTried pace tries → tries.from_end ≤ 2 ^ 32
         → IsFirstFewest tries (slot_drops_at sizing pace member slots) found
         → AreFewestSlotDrops sizing member slots tries found }
+{}
+
+/// And those that the courses over all members' frames drop together are those that all members
+/// together drop.
+pub fn the_total_drops_of_slot_courses_are_those_of_replays()
+    ensures most { (sizing : Sizing) (pace : Timing) (tries : Tries) (found : Reached) (slots : ℕ)
+        → rolls_over sizing.rules ≡ false
+        → IsSlotSizing sizing pace → AreTried pace tries → tries.from_end ≤ 2 ^ 32
+        → IsFirstMost tries (total_slot_drops_at sizing pace slots) found
+        → AreMostTotalSlotDrops sizing slots tries found }
+    ensures fewest { (sizing : Sizing) (pace : Timing) (tries : Tries) (found : Reached)
+        (slots : ℕ)
+        → rolls_over sizing.rules ≡ false
+        → IsSlotSizing sizing pace → AreTried pace tries → tries.from_end ≤ 2 ^ 32
+        → IsFirstFewest tries (total_slot_drops_at sizing pace slots) found
+        → AreFewestTotalSlotDrops sizing slots tries found }
 {}
