@@ -20,3 +20,4 @@ pub mod Leeways
 pub mod Stretches
 pub mod Columns
 pub mod Quiets
+pub mod Totals

@@ -128,26 +128,18 @@ module _ (number_at : ℕ → ℕ → ℕ) (tries : Tries) (tried : ℕ) where
 
 -- ---- the same events give the same numbers
 
-pub least_same : (room : ℕ) (stalls : List StallTime) (pace : Timing) (phase other from : ℕ) (arrivals : List Arrival) (end : ℕ)
-    → schedule_to stalls (at_phase (begun pace phase from) other) arrivals end
-    ≡ schedule_to stalls (begun pace phase from) arrivals end
-    → least_of room stalls (begun pace other from) arrivals end ≡ least_of room stalls (begun pace phase from) arrivals end
-least_same room stalls pace phase other from arrivals end same =
+pub least_same : (room : ℕ) (stalls : List StallTime) (pace : Timing) (phase : ℕ) (arrivals : List Arrival) (end : ℕ)
+    → schedule_to stalls (at_phase pace phase) arrivals end ≡ schedule_to stalls pace arrivals end
+    → least_of room stalls (at_phase pace phase) arrivals end ≡ least_of room stalls pace arrivals end
+least_same room stalls pace phase arrivals end same =
     ap (λ (events : List Event). (passed_all room pace.tov events (first_pass pace.tov)).least) same
 
-pub drops_same : (room blocks : ℕ) (stalls : List StallTime) (pace : Timing) (phase other from : ℕ) (arrivals : List Arrival)
+pub drops_same : (room blocks : ℕ) (stalls : List StallTime) (pace : Timing) (phase : ℕ) (arrivals : List Arrival)
     (end : ℕ)
-    → schedule_to stalls (at_phase (begun pace phase from) other) arrivals end
-    ≡ schedule_to stalls (begun pace phase from) arrivals end
-    → drops_of room blocks stalls (begun pace other from) arrivals end
-    ≡ drops_of room blocks stalls (begun pace phase from) arrivals end
-drops_same room blocks stalls pace phase other from arrivals end same =
+    → schedule_to stalls (at_phase pace phase) arrivals end ≡ schedule_to stalls pace arrivals end
+    → drops_of room blocks stalls (at_phase pace phase) arrivals end ≡ drops_of room blocks stalls pace arrivals end
+drops_same room blocks stalls pace phase arrivals end same =
     ap (λ (events : List Event). (all_went_on room blocks pace.tov events (first_course pace.tov)).dropped) same
-
--- the events are the same at these phases
-abbrev pub SameEvents : Timing → ℕ → List Arrival → ℕ → Type 0
-SameEvents here next arrivals end = (stalls : List StallTime) (phase : ℕ) → here.phase ≤ phase → phase < next
-    → schedule_to stalls (at_phase here phase) arrivals end ≡ schedule_to stalls here arrivals end
 
 -- the unit is that of the timer and the reader at each phase
 pub unit_stays : (pace : Timing) (phase other from unit : ℕ) (first here : Timing) → first ≡ begun pace phase from
@@ -155,62 +147,45 @@ pub unit_stays : (pace : Timing) (phase other from unit : ℕ) (first here : Tim
 unit_stays pace phase other from unit first here e f is =
     subst (λ (pace : Timing). IsUnit pace unit) (sym f) (subst (λ (pace : Timing). IsUnit pace unit) e is)
 
-module _ (room : ℕ) (stalls : List StallTime) (pace : Timing) (tries : Tries) (arrivals : List Arrival)
-    (end tried next number : ℕ)
-    (here : Timing) where
-  abbrev least_at : ℕ → ℕ → ℕ
-  least_at phase from = least_of room stalls (begun pace phase from) arrivals end
+-- ---- a number that is the same at some phases
 
-  leasts : here ≡ begun pace tried tries.first_from → SameEvents here next arrivals end → (phase : ℕ) → tried ≤ phase
-      → phase < next → least_at phase tries.first_from ≡ least_at tried tries.first_from
-  leasts is same phase more few =
-      least_same room stalls pace tried phase tries.first_from arrivals end
-      (subst (λ (here : Timing). SameEvents here next arrivals end) is same stalls phase more few)
+abbrev pub IsSame : (Timing → ℕ) → Timing → ℕ → Type 0
+IsSame number_of here next = (phase : ℕ) → here.phase ≤ phase → phase < next
+    → number_of (at_phase here phase) ≡ number_of here
 
-  -- the next phase, and those at which the events are the same
-  pub next_least : (worst : Reached) → here ≡ begun pace tried tries.first_from → tries.first_phase < tried → tried < next
-      → IsFirstMost (record tries { phase_end = tried; from_end = tries.first_from + 1 }) least_at worst
-      → number ≡ least_of room stalls here arrivals end → SameEvents here next arrivals end
-      → IsFirstMost (record tries { phase_end = next; from_end = tries.first_from + 1 }) least_at
-      (or_more worst (record { number = number; phase = tried; from = tries.first_from }))
-  next_least worst is some up h counted same =
-      more_phase least_at (record tries { from_end = tries.first_from + 1 }) tried next worst
-      (record { number = number; phase = tried; from = tries.first_from }) h
-      (same_numbers _ _ most least_at (record tries { first_phase = tried }) number next up
-      (counted ∙ ap (λ (pace : Timing). least_of room stalls pace arrivals end) is) (leasts is same)) some (omega (arith, up))
+module _ (number_of : Timing → ℕ) (pace : Timing) (tries : Tries) where
+  abbrev number_at : ℕ → ℕ → ℕ
+  number_at phase from = number_of (begun pace phase from)
 
-module _ (room blocks : ℕ) (stalls : List StallTime) (pace : Timing) (tries : Tries) (arrivals : List Arrival)
-    (end tried next number : ℕ)
-    (here : Timing) where
-  abbrev drops_at : ℕ → ℕ → ℕ
-  drops_at phase from = drops_of room blocks stalls (begun pace phase from) arrivals end
+  -- at the first beginning, from one phase up to another
+  abbrev between : ℕ → ℕ → Tries
+  between phase end = record tries { first_phase = phase; phase_end = end; from_end = tries.first_from + 1 }
 
-  drops : here ≡ begun pace tried tries.first_from → SameEvents here next arrivals end → (phase : ℕ) → tried ≤ phase
-      → phase < next → drops_at phase tries.first_from ≡ drops_at tried tries.first_from
-  drops is same phase more few =
-      drops_same room blocks stalls pace tried phase tries.first_from arrivals end
-      (subst (λ (here : Timing). SameEvents here next arrivals end) is same stalls phase more few)
+  abbrev reached_at : ℕ → ℕ → Reached
+  reached_at number phase = record { number = number; phase = phase; from = tries.first_from }
 
-  abbrev new : Reached
-  new = record { number = number; phase = tried; from = tries.first_from }
+  module _ (Best Better : ℕ → ℕ → Type 0) (order : IsOrder Best Better) (tried next number : ℕ) (here : Timing) where
+    pub alike : here ≡ begun pace tried tries.first_from → tried < next → number ≡ number_of here
+        → IsSame number_of here next → IsFirst Best Better (between tried next) number_at (reached_at number tried)
+    alike is up counted same =
+        same_numbers Best Better order number_at (record tries { first_phase = tried }) number next up
+        (counted ∙ ap number_of is) (subst (λ (here : Timing). IsSame number_of here next) is same)
 
-  pub next_most : (most_so_far : Reached) → here ≡ begun pace tried tries.first_from → tries.first_phase < tried → tried < next
-      → IsFirstMost (record tries { phase_end = tried; from_end = tries.first_from + 1 }) drops_at most_so_far
-      → number ≡ drops_of room blocks stalls here arrivals end → SameEvents here next arrivals end
-      → IsFirstMost (record tries { phase_end = next; from_end = tries.first_from + 1 }) drops_at (or_more most_so_far new)
-  next_most most_so_far is some up h counted same =
-      more_phase drops_at (record tries { from_end = tries.first_from + 1 }) tried next most_so_far new h
-      (same_numbers _ _ most drops_at (record tries { first_phase = tried }) number next up
-      (counted ∙ ap (λ (pace : Timing). drops_of room blocks stalls pace arrivals end) is) (drops is same)) some
-      (omega (arith, up))
+  module _ (tried next number : ℕ) (here : Timing) (found : Reached) where
+    pub next_most : here ≡ begun pace tried tries.first_from → tries.first_phase < tried → tried < next
+        → IsFirstMost (record tries { phase_end = tried; from_end = tries.first_from + 1 }) number_at found
+        → number ≡ number_of here → IsSame number_of here next
+        → IsFirstMost (record tries { phase_end = next; from_end = tries.first_from + 1 }) number_at
+        (or_more found (reached_at number tried))
+    next_most is some up h counted same =
+        more_phase number_at (record tries { from_end = tries.first_from + 1 }) tried next found (reached_at number tried) h
+        (alike _ _ most tried next number here is up counted same) some (omega (arith, up))
 
-  pub next_fewest : (fewest_so_far : Reached) → here ≡ begun pace tried tries.first_from → tries.first_phase < tried
-      → tried < next
-      → IsFirstFewest (record tries { phase_end = tried; from_end = tries.first_from + 1 }) drops_at fewest_so_far
-      → number ≡ drops_of room blocks stalls here arrivals end → SameEvents here next arrivals end
-      → IsFirstFewest (record tries { phase_end = next; from_end = tries.first_from + 1 }) drops_at (or_fewer fewest_so_far new)
-  next_fewest fewest_so_far is some up h counted same =
-      fewer_phase drops_at (record tries { from_end = tries.first_from + 1 }) tried next fewest_so_far new h
-      (same_numbers _ _ fewest drops_at (record tries { first_phase = tried }) number next up
-      (counted ∙ ap (λ (pace : Timing). drops_of room blocks stalls pace arrivals end) is) (drops is same)) some
-      (omega (arith, up))
+    pub next_fewest : here ≡ begun pace tried tries.first_from → tries.first_phase < tried → tried < next
+        → IsFirstFewest (record tries { phase_end = tried; from_end = tries.first_from + 1 }) number_at found
+        → number ≡ number_of here → IsSame number_of here next
+        → IsFirstFewest (record tries { phase_end = next; from_end = tries.first_from + 1 }) number_at
+        (or_fewer found (reached_at number tried))
+    next_fewest is some up h counted same =
+        fewer_phase number_at (record tries { from_end = tries.first_from + 1 }) tried next found (reached_at number tried) h
+        (alike _ _ fewest tried next number here is up counted same) some (omega (arith, up))

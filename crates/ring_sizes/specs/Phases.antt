@@ -1,6 +1,7 @@
 -- Numbers at each beginning of a timer and a reader: the first at which one is greatest or least.
 use Rattle.std.specs.Prelude.{◌≡◌, ℕ, ◌*◌, ◌<◌, ◌≤◌, ◌^◌, ◌⊎◌, List, nat_lt}
 use Rattle.std.specs.Prelude.{if◌then◌else◌, ◌==◌, ◌&&◌, ◌||◌}
+use Rattle.std.specs.List.{sum_by}
 use Rattle.ring_sizes.specs.Courses.{all_went_on, first_course}
 use Rattle.ring_sizes.specs.Passes.{first_pass, passed_all}
 use Rattle.ring_sizes.specs.Schedules.{schedule_to}
@@ -25,6 +26,12 @@ abbrev pub drops_of : ℕ → ℕ → List StallTime → Timing → List Arrival
 drops_of room blocks stalls pace arrivals end =
     (all_went_on room blocks pace.tov (schedule_to stalls pace arrivals end)
     (first_course pace.tov)).dropped
+
+-- the packets that the courses of some members drop together
+abbrev pub drops_of_all :
+    ℕ → ℕ → List StallTime → Timing → List (List Arrival) → ℕ → ℕ
+drops_of_all room blocks stalls pace members end =
+    sum_by (λ arrivals. drops_of room blocks stalls pace arrivals end) members
 
 -- a phase of the timer that is tried, in milliseconds
 abbrev pub IsPhase : Tries → ℕ → Type 0

@@ -4,7 +4,9 @@
 
 mod courses;
 mod events;
+mod extremes;
 mod laws;
+mod measures;
 mod orders;
 mod paces;
 mod phase_losses;
@@ -23,10 +25,10 @@ pub use laws::{
     a_tick_is_counted_from_its_moment_on, as_many_reads_as_blocks_read_all,
     events_stay_in_order_where_no_tick_passes_any,
 };
-pub use paces::{Arrival, StallTime, Timing};
+pub use paces::{Arrival, ArrivalList, StallTime, Timing};
 pub use phase_losses::{DropRange, losses_of_all};
 pub use phases::least_of_all;
 pub use sizes::{Pass, least};
 pub use timed::{least_at, timed_pass};
 pub use timed_courses::losses_at;
-pub use tries::{Reached, Tries};
+pub use tries::{Reached, Trial, Tries};

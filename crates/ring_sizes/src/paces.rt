@@ -5,6 +5,8 @@ ghost use Rattle.ring_sizes.specs.Phases.{begun};
 ghost use Rattle.ring_sizes.specs.Schedules.{IsPace, awake, is_stalled, step_moment};
 ghost use Rattle.ring_sizes.specs.Schedules.{steps_before, tick_moment, ticks_by};
 
+use frame_view::ItemList;
+
 pub(crate) const MILLISECOND: u64 = 1_000_000;
 
 /// A moment after that of each frame.
@@ -18,6 +20,9 @@ pub struct Arrival {
     /// The bytes of a block that it takes.
     pub need: u32,
 }
+
+/// The frames of a ring, in the order in which they come.
+pub type ArrivalList = ItemList<Arrival>;
 
 /// The reader makes no step from this moment on, for so long.
 #[derive(Clone, Copy, Debug)]

@@ -1,5 +1,6 @@
-//! What a ring loses, whenever the timer and the reader began.
-ghost use Rattle.std.specs.Prelude.{◌≡◌, ◌+◌, ◌<◌, ◌≤◌, ◌^◌, ℕ, List, All, length};
+//! What some rings together lose, whenever the timer and the reader began.
+ghost use Rattle.std.specs.Prelude.{◌≡◌, ◌+◌, ◌<◌, ◌≤◌, ◌^◌, ℕ, List, length, map};
+ghost use Rattle.std.specs.List.{AllByRecursion, sum_by};
 ghost use Rattle.ring_events.specs.Happenings.{IsPlain, all_happened};
 ghost use Rattle.ring_events.specs.declared.events.Happening.{Happening};
 ghost use Rattle.ring_model.specs.Fates.{totals_of};
@@ -7,16 +8,16 @@ ghost use Rattle.ring_model.specs.Ring.{Size};
 ghost use Rattle.ring_model.specs.Rings.{fresh};
 ghost use Rattle.ring_sizes.specs.EventLists.{events_of};
 ghost use Rattle.ring_sizes.specs.Phases.{AreTried, IsBeginning, IsFirstFewest, IsFirstMost};
-ghost use Rattle.ring_sizes.specs.Phases.{IsPhase, begun, drops_of, or_fewer, or_more};
+ghost use Rattle.ring_sizes.specs.Phases.{IsPhase, begun, drops_of_all};
 ghost use Rattle.ring_sizes.specs.Schedules.{schedule_to};
-ghost use Rattle.ring_sizes.specs.Shares.{AreWork, IsRange};
-ghost use Rattle.std.specs.Thread.{IsSync};
+ghost use Rattle.ring_sizes.specs.Shares.{AreEarly};
 
-use crate::threads::thread_count;
-use crate::{Arrival, Reached, StallTime, Timing, Tries, losses_at};
-use std::thread::{Threads, join};
+use crate::extremes::extremes_of_all;
+use crate::measures::Measure;
+use crate::{ArrivalList, Reached, StallTime, Timing, Trial, losses_at};
+use std::thread::Threads;
 
-/// The fewest and the most packets that a ring drops at the beginnings that are tried, each with
+/// The fewest and the most packets that are dropped at the beginnings that are tried, each with
 /// the first at which it is reached.
 #[derive(Clone, Copy, Debug, PartialEq, Eq)]
 pub struct DropRange {
@@ -24,216 +25,95 @@ pub struct DropRange {
     pub most: Reached,
 }
 
-/// The fewest and the most packets that a ring with blocks of this room, and this number of them,
-/// drops at any phase of the timer and any beginning of the reader that are tried; and the first
-/// at which each is reached. `pace` has any phase and start. The phases are shared out over
-/// threads, as many as there are processors and at most eight.
+/// The fewest and the most packets that some rings together drop at any phase of the timer and any
+/// beginning of the reader that are tried; and the first at which each is reached. Each member has
+/// a ring of its own, with so many blocks that have this room; of one member it is what this ring
+/// drops. The phases are shared out over threads, as many as there are processors and at most
+/// eight.
 pub fn losses_of_all<R: Threads + Sync>(
     rt: &R,
     room: u32,
     blocks: u32,
-    pace: &Timing,
-    tries: &Tries,
-    stalls: &[StallTime],
-    arrivals: &[Arrival],
-    end: u64,
+    trial: &Trial,
+    members: &[ArrivalList],
 ) -> DropRange
-    requires tried { AreTried pace.now tries.now }
-    requires early { All (λ arrival. arrival.at < 2 ^ 53) arrivals.now }
-    requires soon { end < 2 ^ 53 }
-    requires few { length arrivals.now < 2 ^ 60 }
-    ensures range { (phase from : ℕ) (happenings : List Happening)
-        → IsPhase tries.now phase → IsBeginning tries.now from
-        → events_of happenings ≡ schedule_to stalls.now (begun pace.now phase from) arrivals.now end
-        → IsPlain happenings
-        → let size : Size = record { room = room; blocks = blocks; tov = pace.now.tov } in
-        let drops = (totals_of size (all_happened happenings (fresh size)).notes).drops in
+    requires tried { AreTried trial.now.pace trial.now.tries }
+    requires early { AllByRecursion AreEarly members.now }
+    requires soon { trial.now.end < 2 ^ 53 }
+    requires few { sum_by (λ arrivals. length arrivals) members.now < 2 ^ 60 }
+    ensures range { (phase from : ℕ) (all : List (List Happening))
+        → IsPhase trial.now.tries phase → IsBeginning trial.now.tries from
+        → map (λ happenings. events_of happenings) all
+        ≡ map (λ arrivals. schedule_to trial.now.stalls.now (begun trial.now.pace phase from)
+        arrivals trial.now.end) members.now
+        → AllByRecursion (λ happenings. IsPlain happenings) all
+        → let size : Size =
+        record { room = room; blocks = blocks; tov = trial.now.pace.tov } in
+        let drops = sum_by
+        (λ happenings. (totals_of size (all_happened happenings (fresh size)).notes).drops) all in
         (result.fewest.number ≤ drops) × (drops ≤ result.most.number) }
-    ensures fewest { IsFirstFewest tries.now
-        (λ phase from. drops_of room blocks stalls.now (begun pace.now phase from) arrivals.now end)
-        result.fewest }
-    ensures most { IsFirstMost tries.now
-        (λ phase from. drops_of room blocks stalls.now (begun pace.now phase from) arrivals.now end)
-        result.most }
+    ensures fewest { IsFirstFewest trial.now.tries
+        (λ phase from. drops_of_all room blocks trial.now.stalls.now
+        (begun trial.now.pace phase from) members.now trial.now.end) result.fewest }
+    ensures most { IsFirstMost trial.now.tries
+        (λ phase from. drops_of_all room blocks trial.now.stalls.now
+        (begun trial.now.pace phase from) members.now trial.now.end) result.most }
 {
-    losses_shared(
-        rt,
-        thread_count(rt),
+    let drops = AllDrops {
         room,
         blocks,
-        pace,
-        tries,
-        stalls,
-        arrivals,
-        end,
-    )
-}
-
-/// The same on at most so many threads, each with some of the phases.
-fn losses_shared<R: Threads + Sync>(
-    rt: &R,
-    threads: u32,
-    room: u32,
-    blocks: u32,
-    pace: &Timing,
-    tries: &Tries,
-    stalls: &[StallTime],
-    arrivals: &[Arrival],
-    end: u64,
-) -> DropRange
-    requires { AreWork pace.now tries.now arrivals.now end }
-    ensures { IsRange room blocks pace.now stalls.now arrivals.now end tries.now result }
-{
-    let phases = tries.phase_end - tries.first_phase;
-    if threads < 2 || phases < 2 {
-        return losses_of_phases(room, blocks, pace, tries, stalls, arrivals, end);
-    }
-    let middle = tries.first_phase + (phases / threads * (threads / 2)).max(1);
-    let front = Tries {
-        phase_end: middle,
-        ..*tries
+        stalls: trial.stalls,
+        members,
+        end: trial.end,
     };
-    let back = Tries {
-        first_phase: middle,
-        ..*tries
-    };
-    let in_front = || -> DropRange
-        requires { IsSync R.row × AreWork pace.now front arrivals.now end }
-        ensures { IsRange room blocks pace.entry.now stalls.entry.now arrivals.entry.now end front
-            result }
-    {
-        losses_shared(
-            rt,
-            threads / 2,
-            room,
-            blocks,
-            pace,
-            &front,
-            stalls,
-            arrivals,
-            end,
-        )
-    };
-    let behind = || -> DropRange
-        requires { IsSync R.row × AreWork pace.now back arrivals.now end }
-        ensures { IsRange room blocks pace.entry.now stalls.entry.now arrivals.entry.now end back
-            result }
-    {
-        losses_shared(
-            rt,
-            threads - threads / 2,
-            room,
-            blocks,
-            pace,
-            &back,
-            stalls,
-            arrivals,
-            end,
-        )
-    };
-    let (one, other) = join(rt, in_front, behind);
+    let extremes = extremes_of_all(rt, &drops, &trial.pace, &trial.tries);
     DropRange {
-        fewest: one.fewest.or_fewer(other.fewest),
-        most: one.most.or_more(other.most),
+        fewest: extremes.fewest,
+        most: extremes.most,
     }
 }
 
-/// The same on this thread.
-fn losses_of_phases(
+/// The packets that some rings together drop.
+#[derive(Clone, Copy)]
+struct AllDrops<'a> {
     room: u32,
     blocks: u32,
-    pace: &Timing,
-    tries: &Tries,
-    stalls: &[StallTime],
-    arrivals: &[Arrival],
+    stalls: &'a [StallTime],
+    members: &'a [ArrivalList],
     end: u64,
-) -> DropRange
-    requires { AreWork pace.now tries.now arrivals.now end }
-    ensures { IsRange room blocks pace.now stalls.now arrivals.now end tries.now result }
-{
-    let mut range = losses_from(room, blocks, pace, tries, stalls, arrivals, end);
-    let mut from = tries.first_from + 1;
-    while from < tries.from_end {
-        let here = Tries {
-            first_from: from,
-            ..*tries
-        };
-        let found = losses_from(room, blocks, pace, &here, stalls, arrivals, end);
-        range = DropRange {
-            fewest: range.fewest.fewer_first(found.fewest),
-            most: range.most.more_first(found.most),
-        };
-        from += 1;
-    }
-    range
 }
 
-/// The same for the first beginning of those that are tried. A phase with which all comes in the
-/// same order as with the one before it needs no pass.
-fn losses_from(
-    room: u32,
-    blocks: u32,
-    pace: &Timing,
-    tries: &Tries,
-    stalls: &[StallTime],
-    arrivals: &[Arrival],
-    end: u64,
-) -> DropRange
-    requires tried { AreTried pace.now tries.now }
-    requires early { All (λ arrival. arrival.at < 2 ^ 53) arrivals.now }
-    requires soon { end < 2 ^ 53 }
-    requires few { length arrivals.now < 2 ^ 60 }
-    ensures fewest { IsFirstFewest (record tries.now { from_end = tries.now.first_from + 1 })
-        (λ phase from. drops_of room blocks stalls.now (begun pace.now phase from) arrivals.now end)
-        result.fewest }
-    ensures most { IsFirstMost (record tries.now { from_end = tries.now.first_from + 1 })
-        (λ phase from. drops_of room blocks stalls.now (begun pace.now phase from) arrivals.now end)
-        result.most }
-{
-    let from = tries.first_from;
-    let first = pace.begun(tries.first_phase, from);
-    let unit = first.unit();
-    let number = losses_at(room, blocks, &first, stalls, arrivals, end).drops;
-    let mut range = DropRange::only(Reached {
-        number,
-        phase: tries.first_phase,
-        from,
-    });
-    let mut phase = first.next_order(unit, tries.phase_end, arrivals, end);
-    while phase < tries.phase_end {
-        let here = pace.begun(phase, from);
-        let number = losses_at(room, blocks, &here, stalls, arrivals, end).drops;
-        range = range.or(Reached {
-            number,
-            phase,
-            from,
-        });
-        phase = here.next_order(unit, tries.phase_end, arrivals, end);
-    }
-    range
-}
+impl<'a> Measure for AllDrops<'a> {
+    ghost use Rattle.ring_sizes.specs.Phases.{drops_of_all};
+    ghost use Rattle.ring_sizes.specs.Shares.{AreFewInAll};
 
-impl DropRange {
-    /// What is found with one number.
-    fn only(found: Reached) -> DropRange
-        ensures { result ≡ (record { fewest = found; most = found }) }
-    {
-        DropRange {
-            fewest: found,
-            most: found,
+    ghost number = { λ rings pace.
+        drops_of_all rings.room rings.blocks rings.stalls.now pace rings.members.now rings.end };
+
+    ghost ready = { λ rings. AreFewInAll rings.members.now rings.end };
+
+    fn number_at(&self, pace: &Timing) -> u64 {
+        let mut total = 0;
+        for arrivals in self.members {
+            let arrivals = arrivals.as_slice();
+            let one = losses_at(
+                self.room,
+                self.blocks,
+                pace,
+                self.stalls,
+                arrivals,
+                self.end,
+            );
+            total += one.drops;
         }
+        total
     }
 
-    /// What is found with one number more.
-    fn or(self, found: Reached) -> DropRange
-        ensures { result ≡ (record {
-          fewest = or_fewer self.fewest found;
-          most = or_more self.most found;
-        }) }
-    {
-        DropRange {
-            fewest: self.fewest.or_fewer(found),
-            most: self.most.or_more(found),
+    fn next_other(&self, pace: &Timing, unit: u128, phase_end: u32) -> u32 {
+        let mut next = phase_end;
+        for arrivals in self.members {
+            next = pace.next_order(unit, next, arrivals.as_slice(), self.end);
         }
+        next
     }
 }

@@ -2,6 +2,8 @@
 ghost use Rattle.std.specs.Prelude.{◌≡◌};
 ghost use Rattle.ring_sizes.specs.Phases.{fewer_first, more_first, or_fewer, or_more};
 
+use crate::{StallTime, Timing};
+
 /// The beginnings of a timer and a reader that are tried, in whole milliseconds: each phase of the
 /// timer with each beginning of the reader.
 #[derive(Clone, Copy, Debug)]
@@ -14,6 +16,20 @@ pub struct Tries {
     pub first_from: u32,
     /// .. below this one.
     pub from_end: u32,
+}
+
+/// What comes to rings beside their frames: a timer and a reader, whenever they began, and the end
+/// of the run.
+#[derive(Clone, Copy, Debug)]
+pub struct Trial<'a> {
+    /// The timer and the reader, with any phase and start.
+    pub pace: Timing,
+    /// When they began.
+    pub tries: Tries,
+    /// When the reader does nothing.
+    pub stalls: &'a [StallTime],
+    /// The moment at which the run ends, in nanoseconds from the first frame on.
+    pub end: u64,
 }
 
 /// A number, and the first phase at which it is reached, with the first beginning of this phase.

@@ -1,10 +1,15 @@
 //! Frames at their moments beside a timer and a reader, with numbers from a second program: a ring
 //! by its rules in Python, which makes each tick and each step of the reader by itself.
+ghost use Rattle.std.specs.Prelude.{◌≡◌, IfOk};
+
+use frame_view::Memory;
 use ring_model::Stats;
 use ring_sizes::{
-    Arrival, DropRange, Reached, StallTime, Timing, Tries, least_at, least_of_all, losses_at,
-    losses_of_all,
+    Arrival, ArrivalList, DropRange, Reached, StallTime, Timing, Trial, Tries, least_at,
+    least_of_all, losses_at, losses_of_all,
 };
+use std::alloc::Global;
+use std::test::Fail;
 
 pub(crate) const ROOM: u32 = 1000;
 
@@ -86,6 +91,52 @@ const FEW: [Arrival; 6] = [
     },
 ];
 
+/// The frames of a ring, as a list of its own.
+fn list_of(alloc: Global, arrivals: &[Arrival]) -> Result<ArrivalList, Memory>
+    ensures { IfOk result (λ list. list ≡ arrivals.now) }
+{
+    Ok(ArrivalList::from_vec(arrivals.to_vec(alloc)?))
+}
+
+/// Two of them fit into a block.
+const EARLY: [Arrival; 5] = [
+    Arrival { at: 0, need: 400 },
+    Arrival { at: 0, need: 400 },
+    Arrival { at: 0, need: 400 },
+    Arrival {
+        at: 500_000,
+        need: 400,
+    },
+    Arrival {
+        at: 500_000,
+        need: 400,
+    },
+];
+
+/// And of these, of another ring.
+const LATE: [Arrival; 5] = [
+    Arrival {
+        at: 500_000,
+        need: 400,
+    },
+    Arrival {
+        at: 500_000,
+        need: 400,
+    },
+    Arrival {
+        at: 500_000,
+        need: 400,
+    },
+    Arrival {
+        at: 500_000,
+        need: 400,
+    },
+    Arrival {
+        at: 1_500_000,
+        need: 400,
+    },
+];
+
 /// A reader that takes all each 6 ms.
 const TAKES_ALL: Timing = Timing {
     tov: 5,
@@ -126,8 +177,14 @@ fn a_reader_that_takes_all_and_stalls(rt: HostRuntime) {
 }
 
 #[test]
-fn a_reader_that_takes_all_and_stalls_whenever_it_began(rt: HostRuntime) {
-    let worst = least_of_all(&rt, ROOM, &TAKES_ALL, &TRIES, &STALLS, &ARRIVALS, END);
+fn a_reader_that_takes_all_and_stalls_whenever_it_began(rt: HostRuntime) -> Result<(), Fail> {
+    let trial = Trial {
+        pace: TAKES_ALL,
+        tries: TRIES,
+        stalls: &STALLS,
+        end: END,
+    };
+    let worst = least_of_all(&rt, ROOM, &trial, &ARRIVALS);
     assert_eq!(rt;
         worst,
         Reached {
@@ -136,7 +193,8 @@ fn a_reader_that_takes_all_and_stalls_whenever_it_began(rt: HostRuntime) {
             from: 1
         }
     );
-    let range = losses_of_all(&rt, ROOM, 2, &TAKES_ALL, &TRIES, &STALLS, &ARRIVALS, END);
+    let members = [list_of(rt.alloc(), &ARRIVALS)?];
+    let range = losses_of_all(&rt, ROOM, 2, &trial, &members);
     assert_eq!(rt;
         range,
         DropRange {
@@ -152,11 +210,12 @@ fn a_reader_that_takes_all_and_stalls_whenever_it_began(rt: HostRuntime) {
             }
         }
     );
+    Ok(())
 }
 
 /// A reader that takes 150 blocks a second.
 #[test]
-fn a_reader_of_one_block_at_a_time(rt: HostRuntime) {
+fn a_reader_of_one_block_at_a_time(rt: HostRuntime) -> Result<(), Fail> {
     let pace = Timing {
         tov: 5,
         phase: 0,
@@ -175,7 +234,13 @@ fn a_reader_of_one_block_at_a_time(rt: HostRuntime) {
             freezes: 1
         }
     );
-    let worst = least_of_all(&rt, ROOM, &pace, &TRIES, &[], &ARRIVALS, END);
+    let trial = Trial {
+        pace,
+        tries: TRIES,
+        stalls: &[],
+        end: END,
+    };
+    let worst = least_of_all(&rt, ROOM, &trial, &ARRIVALS);
     assert_eq!(rt;
         worst,
         Reached {
@@ -184,7 +249,8 @@ fn a_reader_of_one_block_at_a_time(rt: HostRuntime) {
             from: 0
         }
     );
-    let range = losses_of_all(&rt, ROOM, 2, &pace, &TRIES, &[], &ARRIVALS, END);
+    let members = [list_of(rt.alloc(), &ARRIVALS)?];
+    let range = losses_of_all(&rt, ROOM, 2, &trial, &members);
     assert_eq!(rt;
         range,
         DropRange {
@@ -200,6 +266,7 @@ fn a_reader_of_one_block_at_a_time(rt: HostRuntime) {
             }
         }
     );
+    Ok(())
 }
 
 /// Ticks come after the last frame of a ring, up to the last of all rings.
@@ -220,7 +287,7 @@ fn ticks_after_the_last_frame_count(rt: HostRuntime) {
 
 /// Of 400 phases and beginnings most have all in the same order as the phase before.
 #[test]
-fn phases_between_few_frames(rt: HostRuntime) {
+fn phases_between_few_frames(rt: HostRuntime) -> Result<(), Fail> {
     let pace = Timing {
         tov: 40,
         span: 10_000_000,
@@ -231,7 +298,13 @@ fn phases_between_few_frames(rt: HostRuntime) {
         from_end: 10,
         ..TRIES
     };
-    let worst = least_of_all(&rt, ROOM, &pace, &tries, &[], &FEW, 95_000_000);
+    let trial = Trial {
+        pace,
+        tries,
+        stalls: &[],
+        end: 95_000_000,
+    };
+    let worst = least_of_all(&rt, ROOM, &trial, &FEW);
     assert_eq!(rt;
         worst,
         Reached {
@@ -240,7 +313,8 @@ fn phases_between_few_frames(rt: HostRuntime) {
             from: 3
         }
     );
-    let range = losses_of_all(&rt, ROOM, 2, &pace, &tries, &[], &FEW, 95_000_000);
+    let members = [list_of(rt.alloc(), &FEW)?];
+    let range = losses_of_all(&rt, ROOM, 2, &trial, &members);
     assert_eq!(rt;
         range.fewest,
         Reached {
@@ -257,4 +331,39 @@ fn phases_between_few_frames(rt: HostRuntime) {
             from: 0
         }
     );
+    Ok(())
+}
+
+/// Two members that lose their fifth frame at another beginning of the reader: one is lost at both.
+#[test]
+fn two_members_together(rt: HostRuntime) -> Result<(), Fail> {
+    let trial = Trial {
+        pace: Timing {
+            tov: 8,
+            span: 2_000_000,
+            ..TAKES_ALL
+        },
+        tries: Tries {
+            phase_end: 1,
+            from_end: 2,
+            ..TRIES
+        },
+        stalls: &[],
+        end: 1_500_000,
+    };
+    let members = [list_of(rt.alloc(), &EARLY)?, list_of(rt.alloc(), &LATE)?];
+    let range = losses_of_all(&rt, ROOM, 2, &trial, &members);
+    let one = Reached {
+        number: 1,
+        phase: 0,
+        from: 0,
+    };
+    assert_eq!(rt;
+        range,
+        DropRange {
+            fewest: one,
+            most: one
+        }
+    );
+    Ok(())
 }

@@ -1,16 +1,16 @@
 use Rattle.std.proofs.Common.{◌-◌, ◌<◌, ◌≤◌}
-use Rattle.ring_sizes.specs.Phases.{IsFirstFewest, IsFirstMost, begun, drops_of}
-use Rattle.ring_sizes.proofs.phase_losses.losses_of_phases.Given as goal
+use Rattle.ring_sizes.specs.Phases.{IsFirstFewest, IsFirstMost, begun}
+use Rattle.ring_sizes.proofs.extremes.extremes_of_phases.Given as goal
 
 abbrev pub invariant-loop-from : goal.invariant-loop-from
-invariant-loop-from l = record {
+invariant-loop-from g l = record {
   some : l.tries.first_from < l.from;
   below : l.from ≤ l.tries.from_end;
   fewest : IsFirstFewest (record l.tries { from_end = l.from })
-      (λ phase from. drops_of l.room l.blocks l.stalls (begun l.pace phase from) l.arrivals l.end) l.range.fewest;
+      (λ phase from. g.M.Measure.number l.measure (begun l.pace phase from)) l.extremes.fewest;
   most : IsFirstMost (record l.tries { from_end = l.from })
-      (λ phase from. drops_of l.room l.blocks l.stalls (begun l.pace phase from) l.arrivals l.end) l.range.most;
+      (λ phase from. g.M.Measure.number l.measure (begun l.pace phase from)) l.extremes.most;
 }
 
 abbrev pub decreases-loop-from : goal.decreases-loop-from
-decreases-loop-from l = l.tries.from_end - l.from
+decreases-loop-from g l = l.tries.from_end - l.from

@@ -1,0 +1,14 @@
+-- What the members so far drop, with what those that are left drop, is what all drop.
+use Rattle.std.proofs.Common.{◌≡◌, ◌+◌, ◌≤◌, drop, length}
+use Rattle.std.specs.List.{sum_by}
+use Rattle.ring_sizes.specs.Phases.{drops_of_all}
+use Rattle.ring_sizes.proofs.phase_losses.AllDropsMeasure.number_at.Given as goal
+
+abbrev pub invariant-loop-arrivals : goal.invariant-loop-arrivals
+invariant-loop-arrivals l = record {
+  is : l.total + drops_of_all l.self.room l.self.blocks l.self.stalls.now l.pace
+      (drop l.arrivals-index l.self.members.now) l.self.end
+      ≡ drops_of_all l.self.room l.self.blocks l.self.stalls.now l.pace l.self.members.now l.self.end;
+  few : l.total + sum_by (λ arrivals. length arrivals) (drop l.arrivals-index l.self.members.now)
+      ≤ sum_by (λ arrivals. length arrivals) l.self.members.now;
+}
