@@ -193,12 +193,12 @@ module _ (room blocks : ℕ) (stalls : List StallTime) (pace : Timing) (members 
 
 -- ---- what the rings' notes say
 
-sum_map : {X Y : Type 0} (f : X → Y) (g : Y → ℕ) (xs : List X) → sum_by g (map f xs) ≡ sum_by (λ x. g (f x)) xs
+pub sum_map : {X Y : Type 0} (f : X → Y) (g : Y → ℕ) (xs : List X) → sum_by g (map f xs) ≡ sum_by (λ x. g (f x)) xs
 sum_map f g [] = refl
 sum_map f g (x ∷ xs) =
     sum_by-cons g (f x) (map f xs) ∙ ap (λ (n : ℕ). g (f x) + n) (sum_map f g xs) ∙ sym (sum_by-cons (λ x. g (f x)) x xs)
 
-sum_same : {X : Type 0} (P : X → Type 0) (f g : X → ℕ) → ((x : X) → P x → f x ≡ g x) → (xs : List X) → AllByRecursion P xs
+pub sum_same : {X : Type 0} (P : X → Type 0) (f g : X → ℕ) → ((x : X) → P x → f x ≡ g x) → (xs : List X) → AllByRecursion P xs
     → sum_by f xs ≡ sum_by g xs
 sum_same P f g same [] all = refl
 sum_same P f g same (x ∷ xs) all =

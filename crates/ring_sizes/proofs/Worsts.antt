@@ -139,6 +139,19 @@ module _ (Best Better : ℕ → ℕ → Type 0) (order : IsOrder Best Better) (n
 
 -- ---- the greatest and the least
 
+-- where each number is another, the first of those is that of these
+pub first_as : (Best Better : ℕ → ℕ → Type 0) (tries : Tries) (one other : ℕ → ℕ → ℕ) (found : Reached)
+    → ((phase from : ℕ) → one phase from ≡ other phase from)
+    → IsFirst Best Better tries one found → IsFirst Best Better tries other found
+first_as Best Better tries one other found same is = record {
+  phase = is.phase;
+  from = is.from;
+  reached = is.reached ∙ same found.phase found.from;
+  best = λ phase from at_phase at_from. subst (Best found.number) (same phase from) (is.best phase from at_phase at_from);
+  first = λ phase from at_phase at_from earlier.
+      subst (Better found.number) (same phase from) (is.first phase from at_phase at_from earlier);
+}
+
 pub less : (n m : ℕ) → nat_lt n m ≡ true → n < m
 less n m e = grind (arith, common_steps)
 

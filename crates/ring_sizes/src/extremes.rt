@@ -13,7 +13,7 @@ use std::thread::{Threads, join};
 /// The least and the greatest of some numbers, each with the first beginning at which it is
 /// reached.
 #[derive(Clone, Copy)]
-pub(crate) struct Extremes {
+pub struct Extremes {
     pub fewest: Reached,
     pub most: Reached,
 }
@@ -21,7 +21,7 @@ pub(crate) struct Extremes {
 /// The least and the greatest number at the beginnings that are tried. `pace` has any phase and
 /// start. The phases are shared out over threads, as many as there are processors and at most
 /// eight.
-pub(crate) fn extremes_of_all<M: Measure + Sync, R: Threads + Sync>(
+pub fn extremes_of_all<M: Measure + Sync, R: Threads + Sync>(
     rt: &R,
     measure: &M,
     pace: &Timing,

@@ -25,6 +25,8 @@ pub use laws::{
     a_tick_is_counted_from_its_moment_on, as_many_reads_as_blocks_read_all,
     events_stay_in_order_where_no_tick_passes_any,
 };
+pub use extremes::{Extremes, extremes_of_all};
+pub use measures::Measure;
 pub use paces::{Arrival, ArrivalList, StallTime, Timing};
 pub use phase_losses::{DropRange, losses_of_all};
 pub use phases::least_of_all;

@@ -7,7 +7,7 @@ ghost use Rattle.ring_sizes.specs.declared.paces.Timing.{Timing as GivenTiming};
 use crate::Timing;
 
 /// A number that depends on when the timer and the reader began.
-pub(crate) trait Measure {
+pub trait Measure {
     // The number with this timer and this reader.
     ghost number: { Self → GivenTiming → ℕ };
 

@@ -92,7 +92,7 @@ const FEW: [Arrival; 6] = [
 ];
 
 /// The frames of a ring, as a list of its own.
-fn list_of(alloc: Global, arrivals: &[Arrival]) -> Result<ArrivalList, Memory>
+pub(crate) fn list_of(alloc: Global, arrivals: &[Arrival]) -> Result<ArrivalList, Memory>
     ensures { IfOk result (λ list. list ≡ arrivals.now) }
 {
     Ok(ArrivalList::from_vec(arrivals.to_vec(alloc)?))

@@ -1,7 +1,9 @@
 //! Rings of slots, with numbers from a second program: a ring by its rules in Python.
+use crate::paced_frames::list_of;
 use ring_model::Stats;
 use ring_sizes::{Arrival, DropRange, Reached, StallTime, Timing, Tries};
 use slot_sizes::{least_slots_at, least_slots_of_all, slot_losses_at, slot_losses_of_all};
+use std::test::Fail;
 
 const ARRIVALS: [Arrival; 11] = [
     Arrival { at: 0, need: 1 },
@@ -58,7 +60,7 @@ fn reached(number: u64, from: u32) -> Reached {
 
 /// A reader that takes all each 4 ms, and does nothing from 9 to 13 ms.
 #[test]
-fn a_reader_that_takes_all_slots_and_stalls(rt: HostRuntime) {
+fn a_reader_that_takes_all_slots_and_stalls(rt: HostRuntime) -> Result<(), Fail> {
     let pace = Timing {
         tov: 1,
         phase: 0,
@@ -87,9 +89,10 @@ fn a_reader_that_takes_all_slots_and_stalls(rt: HostRuntime) {
             freezes: 0
         }
     );
-    let worst = least_slots_of_all(&pace, &tries, &stalls, &ARRIVALS);
+    let worst = least_slots_of_all(&rt, &pace, &tries, &stalls, &ARRIVALS);
     assert_eq!(rt; worst, reached(5, 0));
-    let range = slot_losses_of_all(2, &pace, &tries, &stalls, &ARRIVALS);
+    let members = [list_of(rt.alloc(), &ARRIVALS)?];
+    let range = slot_losses_of_all(&rt, 2, &pace, &tries, &stalls, &members);
     assert_eq!(rt;
         range,
         DropRange {
@@ -97,11 +100,12 @@ fn a_reader_that_takes_all_slots_and_stalls(rt: HostRuntime) {
             most: reached(6, 3)
         }
     );
+    Ok(())
 }
 
 /// A reader that takes 400 slots a second.
 #[test]
-fn a_reader_of_one_slot_at_a_time(rt: HostRuntime) {
+fn a_reader_of_one_slot_at_a_time(rt: HostRuntime) -> Result<(), Fail> {
     let pace = Timing {
         tov: 1,
         phase: 0,
@@ -117,9 +121,10 @@ fn a_reader_of_one_slot_at_a_time(rt: HostRuntime) {
         from_end: 3,
     };
     assert_eq!(rt; least_slots_at(&pace, &[], &ARRIVALS), 5);
-    let worst = least_slots_of_all(&pace, &tries, &[], &ARRIVALS);
+    let worst = least_slots_of_all(&rt, &pace, &tries, &[], &ARRIVALS);
     assert_eq!(rt; worst, reached(6, 2));
-    let range = slot_losses_of_all(2, &pace, &tries, &[], &ARRIVALS);
+    let members = [list_of(rt.alloc(), &ARRIVALS)?];
+    let range = slot_losses_of_all(&rt, 2, &pace, &tries, &[], &members);
     assert_eq!(rt;
         range,
         DropRange {
@@ -127,4 +132,5 @@ fn a_reader_of_one_slot_at_a_time(rt: HostRuntime) {
             most: reached(4, 1)
         }
     );
+    Ok(())
 }

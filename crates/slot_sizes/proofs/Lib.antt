@@ -4,3 +4,5 @@ pub mod SlotRuns
 pub mod SlotSteps
 pub mod SlotCourseSteps
 pub mod SlotPhases
+pub mod SlotEnds
+pub mod SlotTotals

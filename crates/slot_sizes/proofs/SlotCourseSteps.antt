@@ -30,7 +30,7 @@ fed_few slots course later e =
     × (later.released ≡ course.released))) (sym e) (fed_by course (nat_lt course.released (course.done + 1 - slots)))
 
 module _ (slots : ℕ) where
-  append : (events more : List Event) (course : SlotCourse)
+  pub append : (events more : List Event) (course : SlotCourse)
       → all_slots_went_on slots (events ++ more) course ≡ all_slots_went_on slots more (all_slots_went_on slots events course)
   append [] more course = refl
   append (event ∷ events) more course = append events more (slot_went_on slots event course)

@@ -42,7 +42,7 @@ steps_are stalls pace since at from to steps e f is =
 
 -- ---- the pass
 
-append : (events more : List Event) (pass : SlotPass)
+pub append : (events more : List Event) (pass : SlotPass)
     → all_slots_passed (events ++ more) pass ≡ all_slots_passed more (all_slots_passed events pass)
 append [] more pass = refl
 append (event ∷ events) more pass = append events more (slot_passed event pass)

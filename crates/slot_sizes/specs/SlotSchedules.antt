@@ -1,7 +1,9 @@
 -- The events of a ring of slots whose frames come at their moments, with a reader beside them:
 -- those of a ring of blocks (ring_sizes) without its ticks.
-use Rattle.std.specs.Prelude.{ℕ, ◌+◌, max, List, [], ◌∷◌, ◌++◌}
+use Rattle.std.specs.Prelude.{ℕ, ◌+◌, ◌<◌, ◌^◌, max, List, [], ◌∷◌, ◌++◌, length}
+use Rattle.std.specs.List.{AllByRecursion, sum_by}
 use Rattle.ring_sizes.specs.Schedules.{steps_from}
+use Rattle.ring_sizes.specs.Shares.{AreEarly}
 use Rattle.ring_sizes.specs.declared.events.Event.{Event}
 use Rattle.ring_sizes.specs.declared.events.Event.TheVariants.{Packet}
 use Rattle.ring_sizes.specs.declared.paces.Arrival.{Arrival}
@@ -32,3 +34,14 @@ least_slots_of stalls pace arrivals end =
 abbrev pub slot_drops_of : ℕ → List StallTime → Timing → List Arrival → ℕ → ℕ
 slot_drops_of slots stalls pace arrivals end =
     (all_slots_went_on slots (slot_schedule_to stalls pace arrivals end) first_slot_course).dropped
+
+-- the packets that the courses of some members drop together
+abbrev pub slot_drops_of_all :
+    ℕ → List StallTime → Timing → List (List Arrival) → ℕ → ℕ
+slot_drops_of_all slots stalls pace members end =
+    sum_by (λ arrivals. slot_drops_of slots stalls pace arrivals end) members
+
+-- the frames of some rings are early enough, and few enough in all
+pub record AreFewForSlots (members : List (List Arrival)) : Type 0 where
+  pub early : AllByRecursion AreEarly members
+  pub few : sum_by (λ arrivals. length arrivals) members < 2 ^ 64
