@@ -25,6 +25,7 @@ EMPTY = """cpu 0 frames 0 arrivals 0 end {}
 member 0 blocks 2 phase 0 from 0
 group blocks 2 phase 0 from 0
 member 0 drops least 0 phase 0 from 0 most 0 phase 0 from 0
+total drops least 0 phase 0 from 0 most 0 phase 0 from 0
 """
 SHORT = "pause 3\n"
 # The lines of a reader, and what is said of them.

@@ -107,6 +107,7 @@ SIZE_IDEAS: dict[str, Callable[[Ended], Ended]] = {
     "a beginning that isn't the first": counted(r"^(member 0 blocks .* from )(\d+)", 1),
     "a drop not counted at the worst": counted(r"^(member 0 drops .* most )(\d+)", -1),
     "a drop at the best": counted(r"^(member 0 drops least )(\d+)", 1),
+    "a drop of all at the best": counted(r"^(total drops least )(\d+)", 1),
     "an arrival not counted": counted(r"^(cpu 0 .* arrivals )(\d+)", -1),
     "damage as success": lambda ended: ended._replace(status=0),
 }

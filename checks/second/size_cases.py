@@ -222,7 +222,14 @@ class Judge:
 
     def drops(self, member: int) -> list[int]:
         """What the setup's own ring of a member drops at each try."""
+        return [each[member] for each in self.all_drops()]
+
+    def totals(self) -> list[int]:
+        """What the rings of all members together drop."""
+        return [sum(each) for each in self.all_drops()]
+
+    def all_drops(self) -> list[list[int]]:
         return [
-            self.members(self.own_count(), place)[member][0]
+            [drops for drops, _ in self.members(self.own_count(), place)]
             for place in self.sizing.places
         ]

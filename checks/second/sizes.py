@@ -204,7 +204,7 @@ class Sizing:
             mine = self.smallest([each[member] for each in needs])
             found.append(f"member {member} {self.ring(mine)}")
         found.append(f"group {self.ring(self.smallest([max(each) for each in needs]))}")
-        return "".join([*found, *self.drops(has_members)])
+        return "".join([*found, *(self.drops() if has_members else ())])
 
     def ring(self, place: Place) -> str:
         """A ring of so many blocks, or slots, and whether no setup may ask for it."""
@@ -215,12 +215,16 @@ class Sizing:
         is_beyond = place.number > most or place.number * size > MOST_BYTES
         return f"{kind} {place.text()}{' beyond' * is_beyond}\n"
 
-    def drops(self, has_members: bool) -> Iterator[str]:
-        drops = [[ring.drops for ring in rings] for rings in self.rings(self.own) if has_members]
-        for member in range(self.setup.members * has_members):
-            mine = [each[member] for each in drops]
-            least, most = self.first(mine, min(mine)), self.first(mine, max(mine))
-            yield f"member {member} drops least {least.text()} most {most.text()}\n"
+    def drops(self) -> Iterator[str]:
+        """What the setup's own rings drop, each and all together."""
+        drops = [[ring.drops for ring in rings] for rings in self.rings(self.own)]
+        for member in range(self.setup.members):
+            yield f"member {member} {self.range([each[member] for each in drops])}"
+        yield f"total {self.range([sum(each) for each in drops])}"
+
+    def range(self, drops: Sequence[int]) -> str:
+        least, most = self.first(drops, min(drops)), self.first(drops, max(drops))
+        return f"drops least {least.text()} most {most.text()}\n"
 
     def by_trying(self) -> int:
         """The smallest ring of the group by trying each number of blocks, or slots, from 2 to 256:

@@ -64,7 +64,27 @@ def test_second_program_by_hand(
     lines = SizeCase(RING, reader, [capture]).sizing().lines().splitlines()
     assert lines[1:] == [
         f"member 0 blocks {ring}", f"group blocks {ring}",
-        f"member 0 drops least {least} most {most}"
+        f"member 0 drops least {least} most {most}", f"total drops least {least} most {most}"
+    ]
+
+
+def test_total_by_hand() -> None:
+    """Two members, each of which loses its fifth frame at another beginning of the reader, so that
+    one frame is lost at both: the first member's at 1 ms, where the reader hasn't read before it
+    comes, and the second's at 0 ms, where it has read before there was a block."""
+    captures = [
+        header() + b"".join(record(frame(1514), fraction=time) for time in times)
+        for times in ([0] * 3 + [500] * 2, [500] * 4 + [1500])
+    ]
+    setup = RING + "cpu in1.pcap\nmembers 2\nmode cpu\n"
+    lines = SizeCase(setup, "pause 2\nphase 0\n", captures).sizing().lines().splitlines()
+    assert lines[2:] == [
+        "member 0 blocks 3 phase 0 from 1",
+        "member 1 blocks 3 phase 0 from 0",
+        "group blocks 3 phase 0 from 0",
+        "member 0 drops least 0 phase 0 from 0 most 1 phase 0 from 1",
+        "member 1 drops least 0 phase 0 from 1 most 1 phase 0 from 0",
+        "total drops least 1 phase 0 from 0 most 1 phase 0 from 0",
     ]
 
 
@@ -143,21 +163,23 @@ def test_by_ringtap(
     seed: int, has_slots: bool, sizer: Path, program: Path, room: Path
 ) -> None:
     """`ringtap replay` at each phase and beginning: the ring that is answered freezes nowhere, each
-    smaller one at its place, and the setup's own ring drops what is answered. For slots it is
-    `replay2`, and a ring that is too small drops."""
+    smaller one at its place, and the setup's own rings drop what is answered, each and all
+    together. For slots it is `replay2`, and a ring that is too small drops."""
     case = drawn(seed, has_slots=has_slots)
     judge = Judge(program, room, case, case.sizing())
     printed, _ = printed_by(sizer, room, case)
     line = r"^member (\d+) (?:blocks|slots) (\d+) phase (\d+) from (\d+)"
     answers = re.findall(line, printed, re.M)
-    ranges = re.findall(r"^member \d+ drops least (.*) most (.*)", printed, re.M)
-    assert (answers == []) == judge.sizing.setup.rolls_over()
+    ranges = re.findall(r"^member \d+ (drops .*\n)", printed, re.M)
+    totals = re.findall(r"^total (drops .*\n)", printed, re.M)
+    assert (answers == []) == (totals == []) == judge.sizing.setup.rolls_over()
     for (member, blocks, phase, begin), found in zip(answers, ranges, strict=True):
         place = int(phase), int(begin)
         assert judge.is_smallest(int(member), int(blocks), place), f"{printed}{case.shown()}"
-        drops = judge.drops(int(member))
-        limits = [judge.sizing.first(drops, each).text() for each in (min(drops), max(drops))]
-        assert [*found] == limits, f"{printed}{case.shown()}"
+        mine = judge.sizing.range(judge.drops(int(member)))
+        assert found == mine, f"{printed}{case.shown()}"
+    for found in totals:
+        assert found == judge.sizing.range(judge.totals()), f"{printed}{case.shown()}"
 
 
 def test_setups_are_short() -> None:

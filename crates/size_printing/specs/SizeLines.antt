@@ -1,7 +1,7 @@
 -- The printed lines of what is found out about the rings of a group, as bytes. Numbers are decimal,
 -- and a line feed ends each line.
 use Rattle.std.specs.Prelude.{ℕ, ◌+◌, ◌*◌, max, Bool, ◌||◌, nat_lt, List, [], ◌∷◌, ◌++◌, codes}
-use Rattle.std.specs.Prelude.{decimal}
+use Rattle.std.specs.Prelude.{decimal, Option, None, Some}
 use Rattle.std.specs.Prelude.{if◌then◌else◌}
 use Rattle.reader_pace.specs.KindWords.{kind_word}
 use Rattle.reader_pace.specs.declared.reader_error.ReaderError.{ReaderError}
@@ -84,6 +84,15 @@ member_drops_lines member [] = []
 member_drops_lines member (drops ∷ all) =
     member_drops_line member drops ++ member_drops_lines (member + 1) all
 
+-- the line of what all members together drop
+unfoldable pub total_drops_line : DropRange → List ℕ
+total_drops_line drops = codes "total" ++ (drops_text drops ++ codes "\n")
+
+-- if it was found out
+abbrev pub total_lines : Option DropRange → List ℕ
+total_lines None = []
+total_lines (Some drops) = total_drops_line drops
+
 -- the line of each file that was read
 abbrev pub file_lines : List ReadFile → List ℕ
 file_lines [] = []
@@ -94,7 +103,8 @@ file_lines (file ∷ files) =
 unfoldable pub size_lines : RingKind → ℕ → SizeReport → List ℕ
 size_lines kind unit report =
     file_lines report.files ++ (member_ring_lines kind unit 0 report.members
-    ++ (group_line kind unit report.group ++ member_drops_lines 0 report.drops))
+    ++ (group_line kind unit report.group
+    ++ (member_drops_lines 0 report.drops ++ total_lines report.total)))
 
 -- the line that says why a reader's text is refused
 unfoldable pub reader_refusal : ReaderError → List ℕ

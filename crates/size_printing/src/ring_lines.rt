@@ -3,7 +3,7 @@ ghost use Rattle.std.specs.Prelude.{◌≡◌, IfOk, codes, string_bytes};
 ghost use Rattle.size_printing.specs.SizeLines.{beyond_text, drops_text, group_line, is_beyond};
 ghost use Rattle.size_printing.specs.SizeLines.{member_drops_line, member_ring_line, most_units};
 ghost use Rattle.size_printing.specs.SizeLines.{place_text, reached_text, ring_text};
-ghost use Rattle.size_printing.specs.SizeLines.{unit_text};
+ghost use Rattle.size_printing.specs.SizeLines.{total_drops_line, unit_text};
 
 use frame_view::Memory;
 use ring_sizes::{DropRange, Reached};
@@ -56,6 +56,15 @@ pub(crate) fn member_drops_line(
 {
     let drops = drops_text(alloc, drops)?;
     Ok(format!(in alloc; "member {member}{drops}\n")?)
+}
+
+/// The line of what all members together drop.
+#[tactic(auto, unfolding(crate::specs::SizeLines::total_drops_line))]
+pub(crate) fn total_drops_line(alloc: Global, drops: DropRange) -> Result<String, Memory>
+    ensures { IfOk result (λ line. string_bytes line ≡ total_drops_line drops) }
+{
+    let drops = drops_text(alloc, drops)?;
+    Ok(format!(in alloc; "total{drops}\n")?)
 }
 
 /// A ring and where it is needed.

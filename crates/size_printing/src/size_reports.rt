@@ -38,4 +38,7 @@ pub struct SizeReport {
     pub group: Reached,
     /// The packets that each member drops over the setup's own ring; none where packets roll over.
     pub drops: DropRanges,
+    /// The packets that all members together drop over the setup's own rings; none where packets
+    /// roll over.
+    pub total: Option<DropRange>,
 }

@@ -1,6 +1,7 @@
 -- What the passes find, put together.
-use Rattle.std.proofs.Common.{◌≡◌, ℕ, ◌+◌, ◌<◌, ◌≤◌, ◌^◌, Bool, true, false, List, [], ◌∷◌, Some}
+use Rattle.std.proofs.Common.{◌≡◌, ℕ, ◌+◌, ◌<◌, ◌≤◌, ◌^◌, Bool, true, false, List, [], ◌∷◌, None, Some}
 use Rattle.std.proofs.Common.{refl, sym, ap, ◌∙◌, subst, arith, get_or, length}
+use Rattle.std.specs.Prelude.{MatchOption}
 use Rattle.fanout_group.specs.Plans.{rolls_over}
 use Rattle.pace_laws.specs.Paces.{pace_of, stalls_of}
 use Rattle.reader_pace.specs.Sound.{ArePhases, IsReader}
@@ -19,7 +20,7 @@ use Rattle.size_printing.specs.declared.size_reports.SizeReport.{SizeReport}
 use Rattle.tap_sizes.specs.RingParts.{parts_of}
 use Rattle.tap_sizes.specs.Tried.{first_phase_of, phase_end_of, tries_by}
 use Rattle.tap_sizes.specs.declared.ring_parts.RingParts.{RingParts}
-use Rattle.tap_sizes.specs.inside.Passes.{AreDropRanges, AreFirstMost, IsAnsweredBy, greatest_ring, most_by}
+use Rattle.tap_sizes.specs.inside.Passes.{AreDropRanges, AreFirstMost, IsAnsweredBy, IsTotalRange, greatest_ring, most_by}
 use Rattle.tap_sizes.proofs.Greatest.{group_most}
 use Rattle.tp_layout.specs.Requests.{time_out_of}
 use Rattle.tp_layout.specs.declared.requests.RingRequest.{RingRequest}
@@ -89,10 +90,12 @@ pub answered_by : (setup : Setup) (reader : PacedReader) (all : List (List Arriv
     → (rolls_over setup.plan ≡ false
     → AreDropRanges parts (record { pace = pace; stalls = stalls; end = end }) tries all
     report.drops)
-    → (rolls_over setup.plan ≡ true → (report.members ≡ []) × (report.drops ≡ []))
+    → (rolls_over setup.plan ≡ false
+    → MatchOption report.total ⊥ (IsTotalRange parts (record { pace = pace; stalls = stalls; end = end }) tries all))
+    → (rolls_over setup.plan ≡ true → (report.members ≡ []) × (report.drops ≡ []) × (report.total ≡ None))
     → IsAnsweredBy setup reader all end files report
 answered_by setup reader all end files report pace tov tries stalls parts rings first parts_are
-    tov_is paced tries_are tried few stalls_are are is some filed group members drops none =
+    tov_is paced tries_are tried few stalls_are are is some filed group members drops total none =
     let same : tries ≡ tries_by reader (time_out_of setup.shape) =
     tries_are ∙ ap (tries_by reader) tov_is in
     let its = parts_of reader.slots setup.shape in
@@ -123,5 +126,11 @@ answered_by setup reader all end files report pace tov tries stalls parts rings 
           (subst (λ (p : RingParts). AreDropRanges p
           (record { pace = pace; stalls = stalls; end = end }) tries all report.drops) parts_are
           (drops alone)));
+      total = λ alone. subst (λ (ss : List StallTime). MatchOption report.total ⊥ (IsTotalRange its
+          (record { pace = pace; stalls = ss; end = end }) (tries_by reader (time_out_of setup.shape)) all)) stalls_are
+          (subst (λ (ts : Tries). MatchOption report.total ⊥ (IsTotalRange its
+          (record { pace = pace; stalls = stalls; end = end }) ts all)) same
+          (subst (λ (p : RingParts). MatchOption report.total ⊥ (IsTotalRange p
+          (record { pace = pace; stalls = stalls; end = end }) tries all)) parts_are (total alone)));
       none = none;
     }

@@ -3,7 +3,7 @@ use Rattle.std.proofs.Common.{◌≡◌, ℕ, ◌<◌, ◌≤◌, Bool, true, fa
 use Rattle.std.proofs.Common.{inl, inr, refl, sym, ◌∙◌, subst, arith}
 use Rattle.std.specs.Prelude.{◌⊎◌, ◌==◌, if◌then◌else◌, nat_lt}
 use Rattle.std.proofs.lemmas.Bool.{eqb-false, eqb-true, ltb-true, ltb-false}
-use Rattle.ring_sizes.specs.Phases.{IsEarlier, IsFirstMost}
+use Rattle.ring_sizes.specs.Phases.{IsEarlier, IsFirstFewest, IsFirstMost}
 use Rattle.ring_sizes.specs.declared.paces.Arrival.{Arrival}
 use Rattle.ring_sizes.specs.declared.tries.Reached.{Reached}
 use Rattle.ring_sizes.specs.declared.tries.Tries.{Tries}
@@ -24,6 +24,20 @@ numbers_as tries one other found same is = record {
       subst (λ n. n ≤ found.number) (same phase from) (is.best phase from at_phase at_from);
   first = λ phase from at_phase at_from earlier.
       subst (λ n. n < found.number) (same phase from)
+      (is.first phase from at_phase at_from earlier);
+}
+
+pub fewest_as : (tries : Tries) (one other : ℕ → ℕ → ℕ) (found : Reached)
+    → ((phase from : ℕ) → one phase from ≡ other phase from)
+    → IsFirstFewest tries one found → IsFirstFewest tries other found
+fewest_as tries one other found same is = record {
+  phase = is.phase;
+  from = is.from;
+  reached = is.reached ∙ same found.phase found.from;
+  best = λ phase from at_phase at_from.
+      subst (λ n. found.number ≤ n) (same phase from) (is.best phase from at_phase at_from);
+  first = λ phase from at_phase at_from earlier.
+      subst (λ n. found.number < n) (same phase from)
       (is.first phase from at_phase at_from earlier);
 }
 

@@ -1,7 +1,8 @@
 -- From what was read of the captures to the answers.
 use Rattle.std.proofs.Common.{◌≡◌, ℕ, ◌<◌, false, List, [], length}
 use Rattle.std.proofs.Common.{map}
-use Rattle.std.proofs.Common.{sym, ap, ◌∙◌, subst, arith, get_or}
+use Rattle.std.proofs.Common.{Option, None, Some, sym, ap, ◌∙◌, subst, arith, get_or}
+use Rattle.std.specs.Prelude.{MatchOption}
 use Rattle.deal_rules.specs.Files.{arriving_by, times_by}
 use Rattle.fanout_group.specs.Plans as plans
 use Rattle.frame_deals.specs.Dealings.{Dealing}
@@ -12,25 +13,51 @@ use Rattle.reader_pace.specs.Timelines.{end_of}
 use Rattle.reader_pace.specs.declared.paces.MoreFile.{MoreFile}
 use Rattle.reader_pace.specs.declared.readers.PacedReader.{PacedReader}
 use Rattle.ring_sizes.specs.declared.paces.Arrival.{Arrival}
+use Rattle.ring_sizes.specs.declared.paces.Timing.{Timing}
+use Rattle.ring_sizes.specs.declared.phase_losses.DropRange.{DropRange}
 use Rattle.ring_sizes.specs.declared.tries.Reached.{Reached}
 use Rattle.run_reports.specs.Jobs.{rules_of}
 use Rattle.setup_text.specs.declared.jobs.Job.{Job}
 use Rattle.size_printing.specs.declared.size_reports.ReadFile.{ReadFile}
 use Rattle.size_printing.specs.declared.size_reports.SizeReport.{SizeReport}
 use Rattle.tap_outside.specs.Seen.{StoreSeen}
-use Rattle.tap_sizes.specs.Answers.{AreMembersAnswered, IsAnswered, sizing_by, tries_for}
+use Rattle.tap_sizes.specs.Answers.{AreMembersAnswered, IsAnswered, IsTotalOf, sizing_by, tries_for}
 use Rattle.tap_sizes.specs.Readings.{AreAllRead}
 use Rattle.tap_sizes.specs.RingParts.{parts_for}
 use Rattle.tap_sizes.specs.declared.ring_parts.RingParts.{RingParts}
 use Rattle.tap_sizes.specs.inside.Measured.{IsReportFor}
-use Rattle.tap_sizes.specs.inside.Passes.{AreFirstMost, IsAnsweredBy}
-use Rattle.tap_sizes.proofs.Greatest.{numbers_as}
+use Rattle.tap_sizes.specs.inside.Passes.{AreFirstMost, IsAnsweredBy, IsTotalRange}
+use Rattle.tap_sizes.proofs.Greatest.{fewest_as, numbers_as}
 use Rattle.tap_sizes.proofs.ReadFrames.{all_read, given_is, end_is}
 use Rattle.tap_sizes.proofs.MemberLists.{range_at, ranges_count, ring_at, rings_count}
-use Rattle.tap_sizes.proofs.TriedNumbers.{AreLaws, clocks_of, drops_in, drops_same, fewest_as, group_least_in}
-use Rattle.tap_sizes.proofs.TriedNumbers.{group_same, least_in, least_same}
+use Rattle.tap_sizes.proofs.TriedNumbers.{AreLaws, clocks_of, drops_in, drops_same, group_least_in}
+use Rattle.tap_sizes.proofs.TriedNumbers.{group_same, least_in, least_same, total_in, total_same}
 
 -- ---- the answers
+
+if_told : (P Q : DropRange → Type 0) → ((range : DropRange) → P range → Q range) → (told : Option DropRange)
+    → MatchOption told ⊥ P → MatchOption told ⊥ Q
+if_told P Q follows None h = absurd h
+if_told P Q follows (Some range) h = follows range h
+
+total_answered : (job : Job) (reader : PacedReader) (bytes : List (List (List ℕ)))
+    (all : List (List Arrival)) (end : ℕ) (range : DropRange) (pace : Timing)
+    → end ≡ end_of (times_by bytes) → length all ≡ job.setup.plan.members
+    → ((member : ℕ) → member < length all
+    → get_or all member [] ≡ given_to (sizing_by job reader bytes) member)
+    → AreLaws (parts_for job reader) (sizing_by job reader bytes) pace (tries_for job reader)
+    → plans.rolls_over job.setup.plan ≡ false
+    → IsTotalRange (parts_for job reader) (clocks_of reader pace end) (tries_for job reader) all range
+    → IsTotalOf job reader (sizing_by job reader bytes) range
+total_answered job reader bytes all end range pace ends count given laws alone h =
+    let parts = parts_for job reader in
+    let totals = total_in parts.kind (sizing_by job reader bytes) pace parts.count in
+    record {
+      fewest = (laws.totals range.fewest alone).1 (fewest_as (tries_for job reader) _ totals range.fewest
+          (λ phase from. total_same job reader bytes pace end all phase from ends count given) h.fewest);
+      most = (laws.totals range.most alone).0 (numbers_as (tries_for job reader) _ totals range.most
+          (λ phase from. total_same job reader bytes pace end all phase from ends count given) h.most);
+    }
 
 members_answered : (job : Job) (reader : PacedReader) (bytes : List (List (List ℕ)))
     (all : List (List Arrival)) (end : ℕ) (files : List ReadFile) (report : SizeReport)
@@ -76,6 +103,10 @@ members_answered job reader bytes all end files report ends count given is laws 
                 (λ phase from. drops_same job reader bytes is.pace end member (get_or all member [])
                 phase from ends (given member here.0)) here.1.most);
           };
+      total = if_told (IsTotalRange parts clocks tries all)
+          (IsTotalOf job reader (sizing_by job reader bytes))
+          (λ range h. total_answered job reader bytes all end range is.pace ends count given laws alone h)
+          report.total (is.total alone);
     }
 
 pub answered : (job : Job) (reader : PacedReader) (bytes : List (List (List ℕ))) (all : List (List Arrival))

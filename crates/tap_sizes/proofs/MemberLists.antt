@@ -1,6 +1,6 @@
 -- The ring and the range of each member, by its place in a list.
 use Rattle.std.proofs.Common.{◌≡◌, ℕ, zero, suc, ◌<◌, List, [], ◌∷◌, length}
-use Rattle.std.proofs.Common.{Option, Some, refl, ap, subst, arith, get_or}
+use Rattle.std.proofs.Common.{Option, Some, refl, sym, ap, subst, arith, get_or}
 use Rattle.std.specs.Prelude.{slice_get}
 use Rattle.ring_sizes.specs.Phases.{IsFirstMost}
 use Rattle.ring_sizes.specs.declared.paces.Arrival.{Arrival}
@@ -9,7 +9,8 @@ use Rattle.ring_sizes.specs.declared.tries.Reached.{Reached}
 use Rattle.ring_sizes.specs.declared.tries.Tries.{Tries}
 use Rattle.tap_sizes.specs.declared.ring_parts.RingParts.{RingParts}
 use Rattle.tap_sizes.specs.inside.Passes.{AreDropRanges, AreFirstMost, Clocks, IsDropRange}
-use Rattle.tap_sizes.specs.inside.Passes.{least_by}
+use Rattle.tap_sizes.specs.inside.Passes.{IsTotalRange, drops_by, least_by, total_by}
+use Rattle.tap_sizes.proofs.Greatest.{fewest_as, numbers_as}
 
 pub rings_count : (parts : RingParts) (clocks : Clocks) (tries : Tries) (all : List (List Arrival))
     (rings : List Reached) → AreFirstMost parts clocks tries all rings → length rings ≡ length all
@@ -68,3 +69,39 @@ range_at parts clocks tries (arrivals ∷ all) (r ∷ ranges) zero range are is 
 range_at parts clocks tries (arrivals ∷ all) (r ∷ ranges) (suc member) range are is =
     let rest = range_at parts clocks tries all ranges member range are.1 is in
     let less = rest.0 in (omega (arith, less), rest.1)
+
+-- ---- all members together
+
+-- of one member alone they are its own
+one_total : (parts : RingParts) (clocks : Clocks) (arrivals : List Arrival) (phase from : ℕ)
+    → total_by parts clocks (arrivals ∷ []) phase from ≡ drops_by parts clocks arrivals phase from
+one_total parts clocks arrivals phase from = omega arith
+
+pub own_range : (parts : RingParts) (clocks : Clocks) (tries : Tries) (arrivals : List Arrival)
+    (members : List (List Arrival)) (range : DropRange) → members ≡ arrivals ∷ []
+    → IsTotalRange parts clocks tries members range
+    → IsDropRange parts clocks tries arrivals range
+own_range parts clocks tries arrivals members range is h =
+    let one = subst (λ (all : List (List Arrival)). IsTotalRange parts clocks tries all range) is h in
+    record {
+      fewest = fewest_as tries _ (drops_by parts clocks arrivals) range.fewest
+          (λ phase from. one_total parts clocks arrivals phase from) one.fewest;
+      most = numbers_as tries _ (drops_by parts clocks arrivals) range.most
+          (λ phase from. one_total parts clocks arrivals phase from) one.most;
+    }
+
+pub total_of_one : (parts : RingParts) (clocks : Clocks) (tries : Tries) (all : List (List Arrival))
+    (ranges : List DropRange) (none : DropRange) → length ranges ≡ 1
+    → AreDropRanges parts clocks tries all ranges
+    → IsTotalRange parts clocks tries all (get_or ranges 0 none)
+total_of_one parts clocks tries all [] none one are = absurd (omega (arith, one))
+total_of_one parts clocks tries [] (own ∷ ranges) none one are = absurd are
+total_of_one parts clocks tries (arrivals ∷ []) (own ∷ []) none one are = record {
+  fewest = fewest_as tries _ (total_by parts clocks (arrivals ∷ [])) own.fewest
+      (λ phase from. sym (one_total parts clocks arrivals phase from)) are.0.fewest;
+  most = numbers_as tries _ (total_by parts clocks (arrivals ∷ [])) own.most
+      (λ phase from. sym (one_total parts clocks arrivals phase from)) are.0.most;
+}
+total_of_one parts clocks tries (arrivals ∷ more ∷ all) (own ∷ []) none one are = absurd are.1
+total_of_one parts clocks tries (arrivals ∷ all) (own ∷ other ∷ ranges) none one are =
+    absurd (omega (arith, one))

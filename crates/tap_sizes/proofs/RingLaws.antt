@@ -4,7 +4,9 @@ use Rattle.deal_rules.specs.Files.{captures_by}
 use Rattle.fanout_group.specs.Rules.{rolls_over}
 use Rattle.frame_view.specs.declared.frames.Frame.{Frame}
 use Rattle.pace_laws.specs.LeastRings.{AreFewestDrops, AreFewestSlotDrops, AreLeastSlots, AreLeastSlotsOfGroup}
-use Rattle.pace_laws.specs.LeastRings.{AreMostDrops, AreMostSlotDrops, IsLeastOfGroup, IsLeastRing}
+use Rattle.pace_laws.specs.LeastRings.{AreFewestTotalDrops, AreFewestTotalSlotDrops, AreMostDrops, AreMostSlotDrops}
+use Rattle.pace_laws.specs.LeastRings.{AreMostTotalDrops, AreMostTotalSlotDrops, IsLeastOfGroup, IsLeastRing}
+use Rattle.pace_laws.specs.LeastRings.{total_drops_at, total_slot_drops_at}
 use Rattle.pace_laws.specs.LeastRings.{drops_at, group_least_at, group_slots_at, least_at, least_slots_by, slot_drops_at}
 use Rattle.pace_laws.specs.Paces.{pace_of}
 use Rattle.pace_laws.specs.JobSizings.{sizing_over}
@@ -51,6 +53,22 @@ FewestLaw =
     → IsFirstFewest tries (drops_at sizing pace member blocks) found
     → AreFewestDrops sizing member blocks tries found
 
+abbrev pub MostTotalLaw : Type 0
+MostTotalLaw =
+    (sizing : Sizing) (pace : Timing) (tries : Tries) (found : Reached) (blocks : ℕ)
+    → rolls_over sizing.rules ≡ false → IsSizing sizing pace → AreTried pace tries
+    → tries.from_end ≤ 2 ^ 32 → 1 ≤ blocks
+    → IsFirstMost tries (total_drops_at sizing pace blocks) found
+    → AreMostTotalDrops sizing blocks tries found
+
+abbrev pub FewestTotalLaw : Type 0
+FewestTotalLaw =
+    (sizing : Sizing) (pace : Timing) (tries : Tries) (found : Reached) (blocks : ℕ)
+    → rolls_over sizing.rules ≡ false → IsSizing sizing pace → AreTried pace tries
+    → tries.from_end ≤ 2 ^ 32 → 1 ≤ blocks
+    → IsFirstFewest tries (total_drops_at sizing pace blocks) found
+    → AreFewestTotalDrops sizing blocks tries found
+
 abbrev pub SizingLaw : Type 0
 SizingLaw =
     (room : ℕ) (job : Job) (reader : PacedReader) (captures : List (List Frame)) (pace : Timing)
@@ -62,6 +80,8 @@ pub record BlockLaws : Type 0 where
   pub group : GroupLaw
   pub most : MostLaw
   pub fewest : FewestLaw
+  pub most_total : MostTotalLaw
+  pub fewest_total : FewestTotalLaw
   pub sizing : SizingLaw
 
 -- ---- rings of slots
@@ -95,6 +115,22 @@ SlotFewestLaw =
     → IsFirstFewest tries (slot_drops_at sizing pace member slots) found
     → AreFewestSlotDrops sizing member slots tries found
 
+abbrev pub SlotMostTotalLaw : Type 0
+SlotMostTotalLaw =
+    (sizing : Sizing) (pace : Timing) (tries : Tries) (found : Reached) (slots : ℕ)
+    → rolls_over sizing.rules ≡ false → IsSlotSizing sizing pace → AreTried pace tries
+    → tries.from_end ≤ 2 ^ 32
+    → IsFirstMost tries (total_slot_drops_at sizing pace slots) found
+    → AreMostTotalSlotDrops sizing slots tries found
+
+abbrev pub SlotFewestTotalLaw : Type 0
+SlotFewestTotalLaw =
+    (sizing : Sizing) (pace : Timing) (tries : Tries) (found : Reached) (slots : ℕ)
+    → rolls_over sizing.rules ≡ false → IsSlotSizing sizing pace → AreTried pace tries
+    → tries.from_end ≤ 2 ^ 32
+    → IsFirstFewest tries (total_slot_drops_at sizing pace slots) found
+    → AreFewestTotalSlotDrops sizing slots tries found
+
 abbrev pub SlotSizingLaw : Type 0
 SlotSizingLaw =
     (room : ℕ) (job : Job) (reader : PacedReader) (captures : List (List Frame)) (pace : Timing)
@@ -106,6 +142,8 @@ pub record SlotLaws : Type 0 where
   pub group : SlotGroupLaw
   pub most : SlotMostLaw
   pub fewest : SlotFewestLaw
+  pub most_total : SlotMostTotalLaw
+  pub fewest_total : SlotFewestTotalLaw
   pub sizing : SlotSizingLaw
 
 -- ---- rings of either
@@ -133,6 +171,10 @@ laws_of job reader bytes pace paced tried few some blocks slots = by reader.slot
           λ first. blocks.most its pace tries found member job.setup.shape.block_nr alone sizing tried few some first,
           λ first. blocks.fewest its pace tries found member job.setup.shape.block_nr alone sizing tried few some first,
         );
+        totals = λ found alone. (
+          λ first. blocks.most_total its pace tries found job.setup.shape.block_nr alone sizing tried few some first,
+          λ first. blocks.fewest_total its pace tries found job.setup.shape.block_nr alone sizing tried few some first,
+        );
       }
   by true is =
       let sizing = slots.sizing (parts_for job reader).room job reader (captures_by 0 bytes) pace is paced in
@@ -143,5 +185,9 @@ laws_of job reader bytes pace paced tried few some blocks slots = by reader.slot
         drops = λ found member alone. (
           λ first. slots.most its pace tries found member job.setup.shape.frame_nr alone sizing tried few first,
           λ first. slots.fewest its pace tries found member job.setup.shape.frame_nr alone sizing tried few first,
+        );
+        totals = λ found alone. (
+          λ first. slots.most_total its pace tries found job.setup.shape.frame_nr alone sizing tried few first,
+          λ first. slots.fewest_total its pace tries found job.setup.shape.frame_nr alone sizing tried few first,
         );
       }

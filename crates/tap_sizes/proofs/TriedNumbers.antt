@@ -1,11 +1,12 @@
 -- The numbers of what was tried: those of the passes are those of the sizing.
-use Rattle.std.proofs.Common.{◌≡◌, ℕ, zero, suc, ◌+◌, ◌<◌, ◌≤◌, false, List, [], ◌∷◌, max, length}
-use Rattle.std.proofs.Common.{refl, sym, ap, ◌∙◌, subst, arith, get_or}
+use Rattle.std.proofs.Common.{◌≡◌, ℕ, zero, suc, ◌+◌, ◌<◌, false, List, [], ◌∷◌, max, length}
+use Rattle.std.proofs.Common.{refl, sym, ap, ◌∙◌, arith, get_or}
 use Rattle.deal_rules.specs.Files.{times_by}
 use Rattle.fanout_group.specs.Rules.{rolls_over}
-use Rattle.pace_laws.specs.LeastRings.{greatest_of}
+use Rattle.pace_laws.specs.LeastRings.{greatest_of, total_of}
 use Rattle.pace_laws.specs.Paces.{stalls_of}
 use Rattle.pace_laws.specs.Sizings.{Sizing, given_to}
+use Rattle.pace_laws.proofs.Sums.{sum_each}
 use Rattle.reader_pace.specs.Timelines.{end_of}
 use Rattle.reader_pace.specs.declared.readers.PacedReader.{PacedReader}
 use Rattle.ring_sizes.specs.Phases.{IsFirstFewest, IsFirstMost, begun}
@@ -16,10 +17,11 @@ use Rattle.ring_sizes.specs.declared.tries.Tries.{Tries}
 use Rattle.run_reports.specs.declared.ring_kind.RingKind.{RingKind}
 use Rattle.setup_text.specs.declared.jobs.Job.{Job}
 use Rattle.tap_sizes.specs.Answers.{sizing_by}
-use Rattle.tap_sizes.specs.RingParts.{AreFewestOf, AreMostOf, IsGroupLeastOf, IsLeastOf, parts_for}
+use Rattle.tap_sizes.specs.RingParts.{AreFewestOf, AreFewestTotalOf, AreMostOf, AreMostTotalOf, IsGroupLeastOf, IsLeastOf}
+use Rattle.tap_sizes.specs.RingParts.{parts_for}
 use Rattle.tap_sizes.specs.declared.ring_parts.RingParts.{RingParts}
 use Rattle.tap_sizes.specs.inside.Passes.{Clocks}
-use Rattle.tap_sizes.specs.inside.Passes.{drops_by, drops_with, least_by, least_with, most_by}
+use Rattle.tap_sizes.specs.inside.Passes.{drops_by, drops_with, least_by, least_with, most_by, total_by}
 
 -- ---- what passes report of a sizing
 
@@ -38,6 +40,10 @@ drops_in kind sizing pace member count phase from =
 abbrev pub group_least_in : RingKind → Sizing → Timing → ℕ → ℕ → ℕ
 group_least_in kind sizing pace phase from =
     greatest_of (λ member. least_in kind sizing pace member phase from) sizing.rules.members
+
+abbrev pub total_in : RingKind → Sizing → Timing → ℕ → ℕ → ℕ → ℕ
+total_in kind sizing pace count phase from =
+    total_of (λ member. drops_in kind sizing pace member count phase from) sizing.rules.members
 
 -- ---- the laws of pace_laws for what was tried
 
@@ -61,25 +67,20 @@ AreDecided kind sizing pace count tries =
     × (IsFirstFewest tries (drops_in kind sizing pace member count) found
     → AreFewestOf kind sizing member count tries found)
 
+abbrev pub AreTotalsDecided : RingKind → Sizing → Timing → ℕ → Tries → Type 0
+AreTotalsDecided kind sizing pace count tries =
+    (found : Reached) → rolls_over sizing.rules ≡ false
+    → (IsFirstMost tries (total_in kind sizing pace count) found
+    → AreMostTotalOf kind sizing count tries found)
+    × (IsFirstFewest tries (total_in kind sizing pace count) found
+    → AreFewestTotalOf kind sizing count tries found)
+
 pub record AreLaws (parts : RingParts) (sizing : Sizing) (pace : Timing) (tries : Tries)
     : Type 0 where
   pub members : IsDecided parts.kind sizing pace tries
   pub group : IsGroupDecided parts.kind sizing pace tries
   pub drops : AreDecided parts.kind sizing pace parts.count tries
-
-pub fewest_as : (tries : Tries) (one other : ℕ → ℕ → ℕ) (found : Reached)
-    → ((phase from : ℕ) → one phase from ≡ other phase from)
-    → IsFirstFewest tries one found → IsFirstFewest tries other found
-fewest_as tries one other found same is = record {
-  phase = is.phase;
-  from = is.from;
-  reached = is.reached ∙ same found.phase found.from;
-  best = λ phase from at_phase at_from.
-      subst (λ n. found.number ≤ n) (same phase from) (is.best phase from at_phase at_from);
-  first = λ phase from at_phase at_from earlier.
-      subst (λ n. found.number < n) (same phase from)
-      (is.first phase from at_phase at_from earlier);
-}
+  pub totals : AreTotalsDecided parts.kind sizing pace parts.count tries
 
 -- the clocks of a pace
 abbrev pub clocks_of : PacedReader → Timing → ℕ → Clocks
@@ -108,6 +109,24 @@ drops_same job reader bytes pace end member arrivals phase from ends given =
     from) given
     ∙ ap (λ (e : ℕ). drops_by (parts_for job reader) (clocks_of reader pace e)
     (given_to (sizing_by job reader bytes) member) phase from) ends
+
+-- ---- all members together
+
+pub total_same : (job : Job) (reader : PacedReader) (bytes : List (List (List ℕ))) (pace : Timing) (end : ℕ)
+    (all : List (List Arrival)) (phase from : ℕ) → end ≡ end_of (times_by bytes)
+    → length all ≡ job.setup.plan.members
+    → ((member : ℕ) → member < length all
+    → get_or all member [] ≡ given_to (sizing_by job reader bytes) member)
+    → total_by (parts_for job reader) (clocks_of reader pace end) all phase from
+    ≡ total_in (parts_for job reader).kind (sizing_by job reader bytes) pace (parts_for job reader).count phase from
+total_same job reader bytes pace end all phase from ends count given =
+    let parts = parts_for job reader in
+    let sizing = sizing_by job reader bytes in
+    sum_each (λ arrivals. drops_by parts (clocks_of reader pace end) arrivals phase from) all []
+    (λ member. drops_in parts.kind sizing pace member parts.count phase from)
+    (λ member less. drops_same job reader bytes pace end member (get_or all member []) phase from ends
+    (given member less))
+    ∙ ap (total_of (λ member. drops_in parts.kind sizing pace member parts.count phase from)) count
 
 -- ---- the greatest of all members
 

@@ -1,6 +1,6 @@
 -- What the captures of a setup say about its rings.
 use Rattle.std.specs.Prelude.{◌≡◌, ℕ, ◌*◌, ◌<◌, true, false, List, [], length, slice_get, None}
-use Rattle.std.specs.Prelude.{Some}
+use Rattle.std.specs.Prelude.{MatchOption, Some}
 use Rattle.fanout_group.specs.Plans.{rolls_over}
 use Rattle.deal_rules.specs.Files.{captures_by, times_by}
 use Rattle.frame_deals.specs.Dealings.{Dealing}
@@ -17,7 +17,8 @@ use Rattle.size_printing.specs.declared.size_reports.ReadFile.{ReadFile}
 use Rattle.size_printing.specs.declared.size_reports.SizeReport.{SizeReport}
 use Rattle.tap_outside.specs.Seen.{StoreSeen}
 use Rattle.tap_sizes.specs.Readings.{AreAllRead}
-use Rattle.tap_sizes.specs.RingParts.{AreFewestOf, AreMostOf, IsGroupLeastOf, IsLeastOf, parts_for}
+use Rattle.tap_sizes.specs.RingParts.{AreFewestOf, AreFewestTotalOf, AreMostOf, AreMostTotalOf}
+use Rattle.tap_sizes.specs.RingParts.{IsGroupLeastOf, IsLeastOf, parts_for}
 use Rattle.tap_sizes.specs.SizeTexts.{IsSizeAsked}
 use Rattle.tap_sizes.specs.SizeWords.{SizeNamed}
 use Rattle.tap_sizes.specs.Tried.{tries_by, unanswered_by}
@@ -64,8 +65,18 @@ pub record IsRangeOf (job : Job) (reader : PacedReader) (sizing : Sizing) (membe
       AreMostOf (parts_for job reader).kind sizing member (parts_for job reader).count
       (tries_for job reader) range.most
 
+-- the fewest and the most packets that the setup's own rings of all members together drop
+pub record IsTotalOf (job : Job) (reader : PacedReader) (sizing : Sizing) (range : DropRange)
+    : Type 0 where
+  pub fewest :
+      AreFewestTotalOf (parts_for job reader).kind sizing (parts_for job reader).count
+      (tries_for job reader) range.fewest
+  pub most :
+      AreMostTotalOf (parts_for job reader).kind sizing (parts_for job reader).count
+      (tries_for job reader) range.most
+
 -- a ring for each member, which is the least in the replays of the group, and what the setup's own
--- ring drops there
+-- ring drops there, each and all together
 pub record AreMembersAnswered (job : Job) (reader : PacedReader) (sizing : Sizing)
     (report : SizeReport) : Type 0 where
   pub count : length report.members ≡ job.setup.plan.members
@@ -74,6 +85,7 @@ pub record AreMembersAnswered (job : Job) (reader : PacedReader) (sizing : Sizin
   pub ranges : length report.drops ≡ job.setup.plan.members
   pub drops : (member : ℕ) (range : DropRange) → slice_get report.drops member ≡ Some range
       → IsRangeOf job reader sizing member range
+  pub total : MatchOption report.total ⊥ (IsTotalOf job reader sizing)
 
 -- the answers over some captures: the least ring of the group, and without rollover those of the
 -- members
@@ -82,7 +94,8 @@ pub record IsAnswered (job : Job) (reader : PacedReader) (sizing : Sizing) (repo
   pub group :
       IsGroupLeastOf (parts_for job reader).kind sizing (tries_for job reader) report.group
   pub members : rolls_over job.setup.plan ≡ false → AreMembersAnswered job reader sizing report
-  pub none : rolls_over job.setup.plan ≡ true → (report.members ≡ []) × (report.drops ≡ [])
+  pub none : rolls_over job.setup.plan ≡ true
+      → (report.members ≡ []) × (report.drops ≡ []) × (report.total ≡ None)
 
 -- the answers of a run of the program
 pub record IsSized (old new : StoreSeen) (named : SizeNamed) (kind : RingKind) (unit : ℕ)

@@ -3,6 +3,8 @@
 use Rattle.std.specs.Prelude.{ℕ, Bool, true, false}
 use Rattle.pace_laws.specs.LeastRings.{AreFewestDrops, AreFewestSlotDrops, AreLeastSlots}
 use Rattle.pace_laws.specs.LeastRings.{AreLeastSlotsOfGroup, AreMostDrops, AreMostSlotDrops}
+use Rattle.pace_laws.specs.LeastRings.{AreFewestTotalDrops, AreFewestTotalSlotDrops}
+use Rattle.pace_laws.specs.LeastRings.{AreMostTotalDrops, AreMostTotalSlotDrops}
 use Rattle.pace_laws.specs.LeastRings.{IsLeastOfGroup, IsLeastRing}
 use Rattle.pace_laws.specs.Sizings.{Sizing}
 use Rattle.reader_pace.specs.declared.readers.PacedReader.{PacedReader}
@@ -56,3 +58,13 @@ abbrev pub AreMostOf : RingKind → Sizing → ℕ → ℕ → Tries → Reached
 AreMostOf Blocks sizing member count tries found = AreMostDrops sizing member count tries found
 AreMostOf Slots sizing member count tries found =
     AreMostSlotDrops sizing member count tries found
+
+-- the fewest packets that all members' rings of so many blocks, or slots, together drop
+abbrev pub AreFewestTotalOf : RingKind → Sizing → ℕ → Tries → Reached → Type 0
+AreFewestTotalOf Blocks sizing count tries found = AreFewestTotalDrops sizing count tries found
+AreFewestTotalOf Slots sizing count tries found = AreFewestTotalSlotDrops sizing count tries found
+
+-- and the most
+abbrev pub AreMostTotalOf : RingKind → Sizing → ℕ → Tries → Reached → Type 0
+AreMostTotalOf Blocks sizing count tries found = AreMostTotalDrops sizing count tries found
+AreMostTotalOf Slots sizing count tries found = AreMostTotalSlotDrops sizing count tries found

@@ -1,7 +1,7 @@
 //! The answers: the least ring of each member and of the group.
 ghost use Rattle.std.specs.Prelude.{◌≡◌, ◌+◌, ◌<◌, ◌≤◌, ◌^◌, ℕ, true, None, IfOk, get_or, length};
 ghost use Rattle.std.specs.Prelude.{if◌then◌else◌};
-ghost use Rattle.std.specs.List.{AllByRecursion};
+ghost use Rattle.std.specs.List.{AllByRecursion, sum_by};
 ghost use Rattle.reader_pace.specs.Sound.{IsReader};
 ghost use Rattle.ring_sizes.specs.declared.tries.Reached.{Reached};
 ghost use Rattle.ring_sizes.specs.Phases.{AreTried, IsFirstMost};
@@ -10,7 +10,7 @@ ghost use Rattle.setup_text.specs.Sound.{IsSetup};
 ghost use Rattle.slot_layout.specs.SlotShapes.{IsSlotShape};
 ghost use Rattle.tap_sizes.specs.Tried.{unanswered_pace};
 ghost use Rattle.tap_sizes.specs.inside.Passes.{AreDropRanges, AreFirstMost, IsAnsweredBy};
-ghost use Rattle.tap_sizes.specs.inside.Passes.{IsDropRange, IsEarly, greatest_ring, is_greater};
+ghost use Rattle.tap_sizes.specs.inside.Passes.{IsEarly, IsTotalRange, greatest_ring, is_greater};
 ghost use Rattle.tap_sizes.specs.inside.Passes.{least_by};
 ghost use Rattle.tp_layout.specs.Requests.{time_out_of};
 
@@ -21,13 +21,14 @@ use frame_deals::{Dealt, DealtList};
 use frame_view::Memory;
 use reader_pace::PacedReader;
 use ring_sizes::{
-    Arrival, DropRange, Reached, StallTime, Timing, Tries, least_of_all, losses_of_all,
+    Arrival, DropRange, Reached, StallTime, Timing, Trial, Tries, least_of_all, losses_of_all,
 };
 use run_reports::RingKind;
 use setup_text::Setup;
 use size_printing::{DropRanges, ReachedList, ReadFiles, SizeReport};
 use slot_sizes::{least_slots_of_all, slot_losses_of_all};
 use std::alloc::Global;
+use std::slice::from_ref;
 use std::thread::Threads;
 
 /// More arrivals than memory holds.
@@ -65,14 +66,17 @@ pub(crate) fn answers_of<R: Threads + Sync>(
             members: ReachedList::new(alloc),
             group,
             drops: DropRanges::new(alloc),
+            total: None,
         });
     }
-    let drops = drop_ranges(rt, alloc, &parts, &pace, &tries, stalls.as_slice(), dealt)?;
+    let drops = all_drops(rt, alloc, &parts, &pace, &tries, stalls.as_slice(), dealt)?;
+    let (drops, total) = drops;
     Ok(SizeReport {
         files,
         members: rings,
         group,
         drops,
+        total: Some(total),
     })
 }
 
@@ -119,10 +123,16 @@ fn least_ring<R: Threads + Sync>(
     ensures { IfOk result (IsFirstMost tries.now (least_by parts.now
         (record { pace = pace.now; stalls = stalls.now; end = end }) arrivals.now)) }
 {
+    let trial = Trial {
+        pace: *pace,
+        tries: *tries,
+        stalls,
+        end,
+    };
     let arrivals = counted(arrivals)?;
     match parts.kind {
-        RingKind::Blocks => Ok(least_of_all(rt, parts.room, pace, tries, stalls, arrivals, end)),
-        RingKind::Slots => Ok(least_slots_of_all(pace, tries, stalls, arrivals)),
+        RingKind::Blocks => Ok(least_of_all(rt, parts.room, &trial, arrivals)),
+        RingKind::Slots => Ok(least_slots_of_all(rt, pace, tries, stalls, arrivals)),
     }
 }
 
@@ -136,6 +146,32 @@ fn counted(arrivals: &DealtList) -> Result<&[Arrival], Memory>
         return Err(Memory);
     }
     Ok(arrivals.as_slice())
+}
+
+/// What the setup's own rings drop: each member's, and all together.
+fn all_drops<R: Threads + Sync>(
+    rt: &R,
+    alloc: Global,
+    parts: &RingParts,
+    pace: &Timing,
+    tries: &Tries,
+    stalls: &[StallTime],
+    dealt: &Dealt,
+) -> Result<(DropRanges, DropRange), Memory>
+    requires tried { AreTried pace.now tries.now }
+    requires once { parts.now.kind ≡ Slots → tries.now.phase_end ≡ tries.now.first_phase + 1 }
+    requires early { AllByRecursion IsEarly dealt.now.members.items }
+    requires soon { dealt.now.end < 2 ^ 53 }
+    ensures each { IfOk result (λ drops. AreDropRanges parts.now
+        (record { pace = pace.now; stalls = stalls.now; end = dealt.now.end })
+        tries.now dealt.now.members.items drops.0) }
+    ensures total { IfOk result (λ drops. IsTotalRange parts.now
+        (record { pace = pace.now; stalls = stalls.now; end = dealt.now.end })
+        tries.now dealt.now.members.items drops.1) }
+{
+    let ranges = drop_ranges(rt, alloc, parts, pace, tries, stalls, dealt)?;
+    let total = total_range(rt, parts, pace, tries, stalls, dealt, ranges.as_slice())?;
+    Ok((ranges, total))
 }
 
 /// The fewest and the most packets that the setup's own ring of each member drops.
@@ -158,35 +194,85 @@ fn drop_ranges<R: Threads + Sync>(
 {
     let mut ranges = DropRanges::new(alloc);
     for arrivals in &dealt.members {
-        let range = drop_range(rt, parts, pace, tries, stalls, arrivals, dealt.end)?;
+        let member = from_ref(arrivals);
+        let range = range_of(rt, parts, pace, tries, stalls, member, dealt.end)?;
         ranges.push(range)?;
     }
     Ok(ranges)
 }
 
-/// The fewest and the most packets that a member's ring drops.
-fn drop_range<R: Threads + Sync>(
+/// The fewest and the most packets that the setup's own rings of all members together drop. Of one
+/// member they are its own, so that no pass is made twice.
+fn total_range<R: Threads + Sync>(
     rt: &R,
     parts: &RingParts,
     pace: &Timing,
     tries: &Tries,
     stalls: &[StallTime],
-    arrivals: &DealtList,
+    dealt: &Dealt,
+    ranges: &[DropRange],
+) -> Result<DropRange, Memory>
+    requires tried { AreTried pace.now tries.now }
+    requires once { parts.now.kind ≡ Slots → tries.now.phase_end ≡ tries.now.first_phase + 1 }
+    requires early { AllByRecursion IsEarly dealt.now.members.items }
+    requires soon { dealt.now.end < 2 ^ 53 }
+    requires ranges { AreDropRanges parts.now
+        (record { pace = pace.now; stalls = stalls.now; end = dealt.now.end })
+        tries.now dealt.now.members.items ranges.now }
+    ensures { IfOk result (IsTotalRange parts.now
+        (record { pace = pace.now; stalls = stalls.now; end = dealt.now.end })
+        tries.now dealt.now.members.items) }
+{
+    if let [own] = ranges {
+        return Ok(*own);
+    }
+    let members = dealt.members.as_slice();
+    range_of(rt, parts, pace, tries, stalls, members, dealt.end)
+}
+
+/// The fewest and the most packets that the setup's own rings of some members together drop.
+fn range_of<R: Threads + Sync>(
+    rt: &R,
+    parts: &RingParts,
+    pace: &Timing,
+    tries: &Tries,
+    stalls: &[StallTime],
+    members: &[DealtList],
     end: u64,
 ) -> Result<DropRange, Memory>
     requires tried { AreTried pace.now tries.now }
     requires once { parts.now.kind ≡ Slots → tries.now.phase_end ≡ tries.now.first_phase + 1 }
-    requires early { IsEarly arrivals.now }
+    requires early { AllByRecursion IsEarly members.now }
     requires soon { end < 2 ^ 53 }
-    ensures { IfOk result (IsDropRange parts.now
-        (record { pace = pace.now; stalls = stalls.now; end = end }) tries.now arrivals.now) }
+    ensures { IfOk result (IsTotalRange parts.now
+        (record { pace = pace.now; stalls = stalls.now; end = end }) tries.now members.now) }
 {
-    let arrivals = counted(arrivals)?;
+    check_count(members)?;
+    let trial = Trial {
+        pace: *pace,
+        tries: *tries,
+        stalls,
+        end,
+    };
     let (room, count) = (parts.room, parts.count);
     match parts.kind {
-        RingKind::Blocks => Ok(losses_of_all(rt, room, count, pace, tries, stalls, arrivals, end)),
-        RingKind::Slots => Ok(slot_losses_of_all(count, pace, tries, stalls, arrivals)),
+        RingKind::Blocks => Ok(losses_of_all(rt, room, count, &trial, members)),
+        RingKind::Slots => Ok(slot_losses_of_all(rt, count, pace, tries, stalls, members)),
     }
+}
+
+/// That some members are given no more than memory holds.
+fn check_count(members: &[DealtList]) -> Result<(), Memory>
+    ensures { IfOk result (λ done. sum_by (λ arrivals. length arrivals) members.now < 2 ^ 60) }
+{
+    let mut count = 0;
+    for arrivals in members {
+        count += arrivals.len();
+        if TOO_MANY <= count {
+            return Err(Memory);
+        }
+    }
+    Ok(())
 }
 
 /// The greatest of some rings, and of those that are as great the one at the first phase and

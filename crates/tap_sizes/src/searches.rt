@@ -34,6 +34,8 @@ use pace_laws::{
     the_greatest_of_all_slot_passes_is_the_least_number_of_the_group,
     the_greatest_of_the_passes_is_the_least_ring,
     the_greatest_of_the_slot_passes_is_the_least_number,
+    the_total_drops_of_courses_are_those_of_replays,
+    the_total_drops_of_slot_courses_are_those_of_replays,
 };
 use reader_pace::{PacedReader, ReaderError, ReaderKind};
 use setup_text::Job;
@@ -180,9 +182,11 @@ fn measure<R: Threads + Sync>(
     the_greatest_of_the_passes_is_the_least_ring();
     the_greatest_of_all_passes_is_the_least_ring_of_the_group();
     the_drops_of_courses_are_those_of_replays();
+    the_total_drops_of_courses_are_those_of_replays();
     the_greatest_of_the_slot_passes_is_the_least_number();
     the_greatest_of_all_slot_passes_is_the_least_number_of_the_group();
     the_drops_of_slot_courses_are_those_of_replays();
+    the_total_drops_of_slot_courses_are_those_of_replays();
     a_shape_is_sound(&job.setup.shape);
     let _members = job.setup.plan.members();
     let CpuReads { files, deals } = reads;

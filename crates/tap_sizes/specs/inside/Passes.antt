@@ -1,7 +1,8 @@
 -- What the passes over what the members are given find.
 use Rattle.std.specs.Prelude.{◌≡◌, ℕ, ◌<◌, ◌≤◌, ◌^◌, max, Bool, true, false, List, [], ◌∷◌, All, ⊤}
 use Rattle.std.specs.Prelude.{◌==◌, nat_lt}
-use Rattle.std.specs.Prelude.{if◌then◌else◌, Some}
+use Rattle.std.specs.Prelude.{if◌then◌else◌, MatchOption, None, Some}
+use Rattle.std.specs.List.{sum_by}
 use Rattle.fanout_group.specs.Plans.{rolls_over}
 use Rattle.pace_laws.specs.Paces.{pace_of, stalls_of}
 use Rattle.reader_pace.specs.declared.readers.PacedReader.{PacedReader}
@@ -83,6 +84,17 @@ AreDropRanges parts clocks tries (arrivals ∷ all) (range ∷ ranges) =
     IsDropRange parts clocks tries arrivals range × AreDropRanges parts clocks tries all ranges
 AreDropRanges parts clocks tries all ranges = ⊥
 
+-- the packets that the courses of all members drop together
+abbrev pub total_by : RingParts → Clocks → List (List Arrival) → ℕ → ℕ → ℕ
+total_by parts clocks all phase from =
+    sum_by (λ arrivals. drops_by parts clocks arrivals phase from) all
+
+-- the fewest and the most
+pub record IsTotalRange (parts : RingParts) (clocks : Clocks) (tries : Tries)
+    (all : List (List Arrival)) (range : DropRange) : Type 0 where
+  pub fewest : IsFirstFewest tries (total_by parts clocks all) range.fewest
+  pub most : IsFirstMost tries (total_by parts clocks all) range.most
+
 -- whether a ring is greater than another, or as great at an earlier phase or beginning
 abbrev pub is_greater : Reached → Reached → Bool
 is_greater ring other =
@@ -122,4 +134,9 @@ pub record IsAnsweredBy (setup : Setup) (reader : PacedReader) (all : List (List
       → AreDropRanges (parts_of reader.slots setup.shape)
       (record { pace = pace; stalls = stalls_of reader.stalls; end = end })
       (tries_by reader (time_out_of setup.shape)) all report.drops
-  pub none : rolls_over setup.plan ≡ true → (report.members ≡ []) × (report.drops ≡ [])
+  pub total : rolls_over setup.plan ≡ false
+      → MatchOption report.total ⊥ (IsTotalRange (parts_of reader.slots setup.shape)
+      (record { pace = pace; stalls = stalls_of reader.stalls; end = end })
+      (tries_by reader (time_out_of setup.shape)) all)
+  pub none : rolls_over setup.plan ≡ true
+      → (report.members ≡ []) × (report.drops ≡ []) × (report.total ≡ None)

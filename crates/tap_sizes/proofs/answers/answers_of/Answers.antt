@@ -2,7 +2,7 @@ use Rattle.std.proofs.Common.{◌≡◌, List, refl, sym, ap, ◌∙◌, arith, 
 use Rattle.ring_sizes.specs.Phases.{AreTried}
 use Rattle.ring_sizes.specs.declared.paces.StallTime.{StallTime}
 use Rattle.ring_sizes.specs.declared.tries.Reached.{Reached}
-use Rattle.tap_sizes.specs.inside.Passes.{AreDropRanges, Clocks, greatest_ring}
+use Rattle.tap_sizes.specs.inside.Passes.{AreDropRanges, Clocks, IsTotalRange, greatest_ring}
 use Rattle.tap_sizes.proofs.Answering.{answered_by, not_both_ways}
 use Rattle.tap_sizes.proofs.MemberLists.{rings_count}
 use Rattle.tap_sizes.proofs.answers.answers_of.Goals as goal
@@ -42,7 +42,8 @@ returns-then-rolls_over g c =
     c.tries_of-tries.ensures.tries tried c.tries_of-tries.ensures.few
     (c.as_slice.ensures.value ∙ c.in_ok-stalls.ensures) c.in_ok-rings.ensures first c.requires.some refl group
     (λ alone. absurd (not_both_ways _ rolls alone)) (λ alone. absurd (not_both_ways _ rolls alone))
-    (λ is. (c.new.ensures, c.new-then-rolls_over.ensures))
+    (λ alone. absurd (not_both_ways _ rolls alone))
+    (λ is. (c.new.ensures, c.new-then-rolls_over.ensures, refl))
 
 pub returns : goal.returns
 returns g c =
@@ -62,11 +63,14 @@ returns g c =
     let alone = sym c.rolls_over.ensures ∙ c.if-rolls_over.false in
     let same = c.as_slice-3.ensures.value ∙ sym c.as_slice.ensures.value in
     let ranges = subst (λ (ss : List StallTime). AreDropRanges c.parts_of-parts.result
-    (record { pace = pace; stalls = ss; end = end }) tries all c.in_ok-drops.drops) same
-    c.in_ok-drops.ensures in
+    (record { pace = pace; stalls = ss; end = end }) tries all c.in_ok-drops.drops.0) same
+    c.in_ok-drops.ensures.each in
+    let total = subst (λ (ss : List StallTime). IsTotalRange c.parts_of-parts.result
+    (record { pace = pace; stalls = ss; end = end }) tries all c.in_ok-drops.drops.1) same
+    c.in_ok-drops.ensures.total in
     answered_by setup reader all end c.args.files _ pace c.time_out-tov.result tries stalls
     c.parts_of-parts.result rings found.0 c.parts_of-parts.ensures.parts
     c.time_out-tov.ensures.time_out c.pace_of-pace.ensures.pace
     c.tries_of-tries.ensures.tries tried c.tries_of-tries.ensures.few
     (c.as_slice.ensures.value ∙ c.in_ok-stalls.ensures) c.in_ok-rings.ensures first c.requires.some refl group
-    (λ is. refl) (λ is. ranges) (λ rolls. absurd (not_both_ways _ rolls alone))
+    (λ is. refl) (λ is. ranges) (λ is. total) (λ rolls. absurd (not_both_ways _ rolls alone))

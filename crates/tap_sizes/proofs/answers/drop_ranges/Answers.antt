@@ -1,6 +1,7 @@
 use Rattle.std.proofs.Common.{◌<◌, List, ap, get_or, length, subst, ◌∙◌}
 use Rattle.ring_sizes.specs.declared.paces.Arrival.{Arrival}
 use Rattle.tap_sizes.specs.inside.Passes.{Clocks}
+use Rattle.tap_sizes.proofs.MemberLists.{own_range}
 use Rattle.tap_sizes.proofs.Members.{one_range_more}
 use Rattle.tap_sizes.proofs.answers.drop_ranges.Goals as goal
 
@@ -17,4 +18,5 @@ loop-arrivals-preserved g c =
     one_range_more c.args.parts.now clocks c.args.tries.now c.args.dealt.now.members.items
     c.loop-arrivals.ranges c.push.new.self c.loop-arrivals.arrivals-index c.arrivals-item.result
     c.in_ok-range.range is less c.in_ok-push.ensures.ok c.loop-arrivals.invariant
-    c.in_ok-range.ensures
+    (own_range c.args.parts.now clocks c.args.tries.now c.arrivals-item.result _ _ c.from_ref-member.ensures.value
+    c.in_ok-range.ensures)

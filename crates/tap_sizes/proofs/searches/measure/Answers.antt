@@ -47,11 +47,15 @@ returns g c = λ old new bytes read.
       group = c.the_greatest_of_all_passes_is_the_least_ring_of_the_group.ensures;
       most = c.the_drops_of_courses_are_those_of_replays.ensures.most;
       fewest = c.the_drops_of_courses_are_those_of_replays.ensures.fewest;
+      most_total = c.the_total_drops_of_courses_are_those_of_replays.ensures.most;
+      fewest_total = c.the_total_drops_of_courses_are_those_of_replays.ensures.fewest;
       sizing = c.a_job_has_a_sizing.ensures.blocks;
     }) (record {
       ring = c.the_greatest_of_the_slot_passes_is_the_least_number.ensures;
       group = c.the_greatest_of_all_slot_passes_is_the_least_number_of_the_group.ensures;
       most = c.the_drops_of_slot_courses_are_those_of_replays.ensures.most;
       fewest = c.the_drops_of_slot_courses_are_those_of_replays.ensures.fewest;
+      most_total = c.the_total_drops_of_slot_courses_are_those_of_replays.ensures.most;
+      fewest_total = c.the_total_drops_of_slot_courses_are_those_of_replays.ensures.fewest;
       sizing = c.a_job_has_a_sizing.ensures.slots;
     }))
