@@ -17,21 +17,19 @@ captures give no answer: no frame, all filtered, or only a part of them was read
 from __future__ import annotations
 
 import argparse
-import csv
-import io
 import itertools
 import sys
 import tempfile
-from dataclasses import asdict, dataclass, replace
+from dataclasses import replace
 from fractions import Fraction
 from pathlib import Path
 from typing import Callable
 
-from .about import NO_ANSWER, NoAnswer, about_object, about_words, refuse_filtered, refuse_parts
-from .advice import Advice, advice_of, make_longer
-from .answers import Search, every_phase, few_phases, kernel_drops, kernel_words, rolls_over
+from .about import NO_ANSWER, NoAnswer, about_words, refuse_filtered, refuse_parts
+from .advice import LIBPCAP_BLOCK, TCPDUMP_TIMEOUT, advice_of, make_longer
+from .answers import Search, every_phase, few_phases, kernel_drops, rolls_over
 from .captures import GZIP_MAGIC, PCAP_UNITS, PCAPNG_MAGIC
-from .clock import Pace, first_step
+from .clock import Pace
 from .files import MODES, NANOSECONDS, CpuLine, Fault, Setup, read_setup, refuse_name
 from .filters import compiled
 from .notes import rollover_note
@@ -39,11 +37,12 @@ from .outputs import check_folder, check_outputs, write_text
 from .readers import Explained, explain
 from .refusals import KEY, unknown_mode
 from .ringsizes import Asker, Finder, ringsize_of
-from .runs import Room, add_program, program_of, table
+from .runs import Room, add_program, program_of
 from .schedule import Fed, add_pace, feeds, pace_of
 from .search import FEW_PHASES, Model
 from .size_pictures import drops_picture, packets_picture
-from .svg_plot import check_picture, kib, save_picture
+from .size_words import Answer, member_rows, object_of, print_words, table_text
+from .svg_plot import check_picture, save_picture
 from .trials import (
     LEAST_BLOCKS,
     MOST_BLOCKS,
@@ -52,12 +51,8 @@ from .trials import (
     Result,
     Ring,
     Trials,
-    answers_by_mode,
     changes_of,
-    evenness,
     least_of,
-    lines_of,
-    members_of,
     repeat,
 )
 from .words import ToolParser, add_json, print_json
@@ -71,7 +66,6 @@ KEYS, MOST_KEYS, MOST_LOOPS = 16, 256, 10_000
 RESERVED_MARK = "PACKET_RESERVE 4"  # in a setup that ring_of.py wrote of a program of libpcap
 # What is taken for captures alone: the ring that tcpdump asks for, and a reader that comes ten
 # times a second.
-TCPDUMP_BLOCK, TCPDUMP_TIMEOUT = 262_144, 1000
 V2_BLOCK, FRAME_SIZE, PAUSE = 65_536, 2048, Fraction(100)
 
 
@@ -134,7 +128,7 @@ def setup_of(paths: list[Path], is_v2: bool) -> Setup:
         )
     if len(paths) > MOST_CPUS:
         raise Fault(f"{len(paths)} captures, and ringtap has at most {MOST_CPUS} CPUs")
-    block = V2_BLOCK if is_v2 else TCPDUMP_BLOCK
+    block = V2_BLOCK if is_v2 else LIBPCAP_BLOCK
     lines = [
         f"block_size {block}",
         f"block_nr {LEAST_BLOCKS}",
@@ -224,141 +218,6 @@ def opening(setup: Setup, args: argparse.Namespace, pace: Pace, is_default: bool
     if is_default:
         return f"by default: {', '.join([*parts, words])}"
     return f"by default: {', '.join(parts)}; as asked: {words}"
-
-
-HEADS = [
-    "mode",
-    "members",
-    "tov",
-    "block_size",
-    "block_nr",
-    "memory",
-    "phase",
-    "kept",
-    "drops",
-    "freezes",
-    "blocks",
-    "fewest",
-]
-
-
-def row_of(result: Result) -> list[object]:
-    """The run at the worst phase, and the fewest drops of any."""
-    ring, report = result.ring, result.worst
-    return [
-        ring.mode,
-        ring.members,
-        ring.timeout,
-        ring.block_size,
-        ring.block_nr,
-        ring.memory,
-        result.worst_phase,
-        report.kept,
-        report.drops,
-        report.freezes,
-        report.blocks,
-        result.fewest,
-    ]
-
-
-def phases_words(result: Result, first: Fraction | None) -> str:
-    """Which phases of the timer were tried, and which beginnings of the reader, whose first step
-    comes so many milliseconds after the first frame where not all were."""
-    if result.begin is not None:
-        return ", at every whole millisecond of the timer and of the reader's beginning"
-    count = len(result.phases)
-    phases = f" at each of {count} phases of the timer" if count > 1 else ""
-    if result.drops_by_phase:
-        phases = ", at every whole millisecond of the timer"
-    if first is None:
-        return phases
-    step = f"{float(first):g} ms after the first frame"
-    return f"{phases}, for a reader whose first step comes {step}"
-
-
-def lost_words(result: Result) -> str:
-    """What a ring loses, from its best phase to its worst."""
-    lost = (
-        f"{result.fewest:,} to {result.drops:,}"
-        if result.fewest != result.drops
-        else f"{result.drops:,}"
-    )
-    packets = f"{lost} of {result.worst.kept + result.drops:,} packets"
-    if result.drops_by_phase:
-        return f"{result.ring.block_nr} blocks freeze, and lose {packets}, by the phase"
-    return f"with {result.ring.block_nr} blocks {packets} are lost"
-
-
-def verdict_of(results: list[Result], least: Result | None, first: Fraction | None) -> list[str]:
-    """The smallest ring that suffices, in words, and the largest of its line that doesn't."""
-    if least is None:
-        best = min(results, key=lambda result: (result.drops, result.ring.memory))
-        does = "freezes" if best.drops_by_phase else "loses packets"
-        return [
-            f"every ring that was tried {does}: no ring suffices",
-            (
-                f"the smallest loss: {best.drops:,} of {best.worst.kept + best.drops:,}, by"
-                f" {best.ring.words()}"
-            ),
-        ]
-    line = next(line for line in lines_of(results) if least in line)
-    smaller = [result for result in line if result.ring.block_nr < least.ring.block_nr]
-    what = (
-        "smallest ring"
-        if smaller or least.ring.block_nr == LEAST_BLOCKS
-        else "smallest ring of those tried"
-    )
-    does = "never freezes" if least.drops_by_phase else "loses nothing"
-    larger = " (any larger one is as good)" if least.drops_by_phase else ""
-    said = [
-        f"the {what} that {does}{phases_words(least, first)}: {least.ring.words()};"
-        f" {kib(least.ring.memory)} in all{larger}"
-    ]
-    return said + ([lost_words(smaller[-1])] if smaller else [])
-
-
-MEMBER_HEADS = ["mode", "members", "member", "kept", "drops", "bytes kept"]
-
-
-def member_rows(trials: Trials, results: list[Result]) -> list[list[object]]:
-    """What each member kept and dropped, at the answer's ring of each mode."""
-    rows = []
-    for result in answers_by_mode(results):
-        kept = trials.kept_bytes(result)
-        for at, member in enumerate(members_of(result)):
-            rows.append(
-                [result.ring.mode, result.ring.members, at, member.kept, member.drops, kept[at]]
-            )
-    return rows
-
-
-def evenness_rows(rows: list[list[object]]) -> list[list[object]]:
-    """The largest member to the mean one, of each mode and number of members: packets, kept or
-    dropped, and bytes kept."""
-    found = []
-    for (mode, members), group in itertools.groupby(rows, key=lambda row: (row[0], row[1])):
-        mine = list(group)
-        packets, kept = evenness([row[3] + row[4] for row in mine]), evenness(
-            [row[5] for row in mine]
-        )
-        found.append([mode, members, f"{packets:.2f}", f"{kept:.2f}"])
-    return found
-
-
-def table_text(results: list[Result]) -> str:
-    """The table with a row for each ring, and below it one for each of its members."""
-    made = io.StringIO()
-    writer = csv.writer(made, lineterminator="\n")
-    writer.writerow([*HEADS[:7], "member", *HEADS[7:]])
-    for result in results:
-        row = row_of(result)
-        writer.writerow([*row[:7], "all", *row[7:]])
-        if result.ring.members > 1:
-            for at, member in enumerate(members_of(result)):
-                writer.writerow(
-                    [*row[:7], at, member.kept, member.drops, member.freezes, member.blocks, ""]
-                )
-    return made.getvalue()
 
 
 def picture_names(args: argparse.Namespace) -> list[Path]:
@@ -557,99 +416,6 @@ def title_of(setup: Setup, fed: Fed, words: str) -> str:
     names = [path.name for path in setup.capture_paths()]
     shown = ", ".join(names[:2]) + (f" and {len(names) - 2} more" if len(names) > 2 else "")
     return f"{shown}: {len(fed.times):,} frames in {fed.end / NANOSECONDS:.3f} s; {words}"
-
-
-@dataclass
-class Answer:
-    """What was found."""
-
-    results: list[Result]
-    least: Result | None
-    rows: list[list[object]]  # what each member kept and dropped
-    advice: list[Advice]
-    fed: Fed
-    filtered: int
-    judgement: list[str]  # what the program said of the answer and of its neighbour
-    keys: list[str]
-    key_needs: list[dict[str, object]]
-    kernel: dict[Ring, int]  # losses as a kernel rolls over, by the tool's own model
-    finders: list[str]  # ringsize, model; none where the program alone was run
-    pace: Pace
-
-    def first_step(self) -> Fraction | None:
-        """Of the reader, in milliseconds after the first frame."""
-        ring = self.results[0].ring
-        return first_step(self.pace, ring.frame_size if ring.is_v2 else ring.block_size)
-
-
-def print_words(first: str, answer: Answer) -> None:
-    results = answer.results
-    print(f"{first}\n")
-    print(table(HEADS, [row_of(result) for result in results]))
-    print()
-    said = [*answer.judgement, *answer.keys, *kernel_words(results, answer.kernel)]
-    print("\n".join([*verdict_of(results, answer.least, answer.first_step()), *said]))
-    if (
-        len({(one.ring.mode, one.ring.members) for one in results}) > 1
-        or results[0].ring.members > 1
-    ):
-        print("\nat the smallest ring of each mode that suffices, or else its largest:\n")
-        print(table(MEMBER_HEADS, answer.rows))
-        print("\nthe largest member to the mean one:\n")
-        print(table(["mode", "members", "packets", "bytes kept"], evenness_rows(answer.rows)))
-    if answer.advice:
-        print()
-        print("\n".join(line for one in answer.advice for line in one.words()))
-        if (
-            all(one.program == "suricata" for one in answer.advice)
-            and answer.least.ring.members == 1
-        ):
-            asked = f"--block-size 256K --tov {TCPDUMP_TIMEOUT}"
-            print(f"for tcpdump and dumpcap, whose blocks have 262144 bytes: {asked}")
-    print(f"\n{about_words(answer.fed.about, answer.filtered)}")
-
-
-def reader_object(pace: Pace) -> dict[str, object]:
-    """The reader in numbers."""
-    numbers = {"blocks": pace.blocks, "bytes": pace.bytes, "pause": pace.pause, "poll": pace.poll}
-    stalls = [[float(start), float(length)] for start, length in pace.stalls]
-    shown = {name: float(value) for name, value in numbers.items() if value is not None}
-    return shown | {"stalls": stalls}
-
-
-def ring_object(result: Result, kernel: dict[Ring, int]) -> dict[str, object]:
-    """A row of the table, and what else is known of the ring."""
-    drops = list(result.drops_by_phase) or [report.drops for report in result.reports]
-    return dict(zip(HEADS, row_of(result))) | {
-        "drops_by_phase": drops,
-        "key": result.key,
-        "from": result.begin,
-        "by_keys": result.by_keys and asdict(result.by_keys),
-        "kernel_drops": kernel.get(result.ring),
-    }
-
-
-def object_of(answer: Answer) -> dict[str, object]:
-    """The same as one object."""
-    least, first = answer.least, answer.first_step()
-    rings = [ring_object(result, answer.kernel) for result in answer.results]
-    names = [head.replace(" ", "_") for head in MEMBER_HEADS]
-    made: dict[str, object] = {
-        "reader": reader_object(answer.pace) | {"first_step": first and float(first)},
-        "about": about_object(answer.fed.about, answer.filtered),
-        "rings": rings,
-        "least": dict(zip(HEADS, row_of(least))) if least else None,
-        "is_every_millisecond": bool(least and least.drops_by_phase),
-        "is_every_beginning": bool(least and least.begin is not None),
-        "found_by": answer.finders,
-        "keys": answer.key_needs,
-        "members": [dict(zip(names, row)) for row in answer.rows],
-        "evenness": [
-            {"mode": row[0], "members": row[1], "packets": float(row[2]), "bytes": float(row[3])}
-            for row in evenness_rows(answer.rows)
-        ],
-    }
-    return made | {one.program: one.object() for one in answer.advice}
 
 
 def save_setup(path: Path, setup: Setup, least: Result, instructions: str | None) -> None:
