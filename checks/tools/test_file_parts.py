@@ -17,7 +17,7 @@ from places import TOP
 from ringtap_tools.captures import CaptureStream
 from ringtap_tools.clock import Pace
 from ringtap_tools.deals import PieceRoom
-from ringtap_tools.file_parts import PartsAsker, most_parts
+from ringtap_tools.file_parts import PartsAsker, most_parts, ring_of
 from ringtap_tools.files import read_setup
 from ringtap_tools.ringsizes import NotAsked, Sized
 from tools.here import BLOCK, Here, frame
@@ -34,6 +34,7 @@ for line in open(sys.argv[2]):
     word, *values = line.split() or ["#"]
     if word == "more":
         files[int(values[0])].append(values[1])
+unit = "slots" if "slots\\n" in open(sys.argv[2]) else "blocks"
 for cpu, names in files.items():
     for name in names:
         data, at = open(name, "rb").read(), 24
@@ -42,7 +43,7 @@ for cpu, names in files.items():
             kept.write(data[at : at + 16 + length])
             at += 16 + length
         told.write(f"{cpu} {len(data)}\\n")
-print("group blocks 3 phase 1 from 2")
+print(f"group {unit} 3 phase 1 from 2")
 """
 
 
@@ -58,21 +59,23 @@ def stand_in(here: Here, text: str) -> Path:
     return path
 
 
-def asked(here: Here, program: Path, captures: list[str]) -> Sized:
+def asked(here: Here, program: Path, captures: list[str], is_v2: bool = False) -> Sized:
     """What the program answers for captures."""
     here.text("large.txt", BLOCK + "".join(f"cpu {here.path / name}\n" for name in captures))
-    with PieceRoom(read_setup(here.path / "large.txt"), here.program) as room:
-        pace = Pace(pause=Fraction(10))
-        return PartsAsker(program, room, pace, LARGEST).smallest(lambda count: None)
+    setup, pace = read_setup(here.path / "large.txt"), Pace(pause=Fraction(10))
+    with PieceRoom(setup, here.program) as room:
+        asker = PartsAsker(program, room, pace, ring_of(setup, is_v2), LARGEST)
+        return asker.smallest(lambda count: None)
 
 
-def test_parts(here: Here) -> None:
+@pytest.mark.parametrize("is_v2", [False, True], ids=["blocks", "slots"])
+def test_parts(here: Here, is_v2: bool) -> None:
     """2,000 frames of 1,000 bytes are 2,032,000 with their records. A part has room for 688 of
     1,016 bytes, and as many parts are named as there could be with one frame of the largest size
     more in each: 1 + 2032024 // (700000 - 262144 - 40) = 5, so the last two are empty."""
     here.capture("large.pcap", [(number, frame(number, 1000)) for number in range(2000)])
     assert most_parts(2_032_024, LARGEST) == 5
-    found = asked(here, stand_in(here, READER), ["large.pcap", "many.pcap"])
+    found = asked(here, stand_in(here, READER), ["large.pcap", "many.pcap"], is_v2)
     assert found == Sized(3, 1, 2)
     sizes = [line.split() for line in (here.path / "told").read_text().splitlines()]
     of_first = [24 + 688 * 1016] * 2 + [24 + (2000 - 2 * 688) * 1016] + [24] * 2
@@ -120,6 +123,20 @@ def test_line(here: Here, monkeypatch: pytest.MonkeyPatch) -> None:
     assert "never freezes, at every whole millisecond of the timer: 3 blocks" in made.printed
 
 
+def test_line_of_slots(here: Here, monkeypatch: pytest.MonkeyPatch) -> None:
+    """The same words for slots, which have no timer."""
+    monkeypatch.setenv("RINGSIZE", str(stand_in(here, READER)))
+    words = ["many.txt", "--replay2", "--pause", "10", "--smallest"]
+    least, first = "the smallest ring that loses nothing", "begins 2 ms after the first frame"
+    tried = ", at every whole millisecond of the reader's beginning"
+    needed = f"3 slots of 2048 bytes; so many are needed for a reader that {first} (by `ringsize`)"
+    for more, where in (([], tried), (["--from", "2"], "")):
+        made = here.with_program("long.py", *words, *more)
+        assert made.printed.splitlines()[-1] == f"{least}{where}: {needed}"
+    found = json.loads(here.with_program("long.py", *words, "--json").printed)
+    assert found["smallest"] == {"slots": 3, "phase": 1, "begin": 2}
+
+
 def test_no_smallest_ring(here: Here, monkeypatch: pytest.MonkeyPatch) -> None:
     """Of nothing that comes, and of a part, none is asked for; the status is 4."""
     monkeypatch.setenv("RINGSIZE", str(stand_in(here, READER)))
@@ -146,3 +163,16 @@ def test_beside_ring_size(here: Here, sizer: Path, monkeypatch: pytest.MonkeyPat
     found = json.loads(here.with_program("long.py", *words, "--smallest").printed)
     least = json.loads(here.with_program("ring_size.py", *words).printed)["least"]
     assert found["smallest"]["blocks"] == least["block_nr"]
+
+
+def test_slots_beside_ring_size(
+    here: Here, sizer: Path, monkeypatch: pytest.MonkeyPatch
+) -> None:
+    """100 frames come within 100 microseconds, so a reader that begins later than the first of them
+    needs a slot for each; a block of 4096 bytes has two of 2048."""
+    monkeypatch.setenv("RINGSIZE", str(sizer))
+    words = ["many.txt", "--replay2", "--pause", "10", "--json"]
+    found = json.loads(here.with_program("long.py", *words, "--smallest").printed)
+    assert found["smallest"] == {"slots": 100, "phase": 0, "begin": 1}
+    made = json.loads(here.with_program("ring_size.py", *words).printed)
+    assert (made["least"]["block_nr"], made["found_by"]) == (50, ["ringsize"])

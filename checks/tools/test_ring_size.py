@@ -233,10 +233,12 @@ def test_slots(here: Here) -> None:
     assert (below(printed)[0], status) == (
         "the smallest ring that loses nothing: 100 slots of 2048 bytes, in 50 blocks of 4096"
         " bytes; "
-        "200 KiB in all",
+        "200 KiB in all (any larger one is as good)",
         0
     )
     assert below(printed)[1] == "with 49 blocks 2 of 100 packets are lost"
+    judged = "`ringtap replay2` judged: 100 slots lose nothing; 99 slots lose packets"
+    assert below(printed)[2].endswith(f"so the tool's own model found it, and there {judged}")
     assert here.answer(
         [here.program, "replay2", "slots-least.txt", "/dev/null"]
     )[0].split("\n")[2] == "total arrivals 100 filtered 0 kept 100 drops 0"

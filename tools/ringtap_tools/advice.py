@@ -67,7 +67,7 @@ def least_of(
 def judged(trials: Trials, model: Model, ring: Ring, least: Least) -> bool:
     """Whether the program counts what the model does, and so no freeze. Where no setup has such a
     ring nothing is run; where a filter cuts frames libpcap's bytes can't be put into them."""
-    ring = replace(ring, block_nr=max(least.blocks, LEAST_BLOCKS))
+    ring = replace(ring, block_nr=max(least.count, LEAST_BLOCKS))
     if not ring.fits:
         return False
     report = trials.run(ring, least.phase, key=least.key, begin=least.begin)
@@ -131,7 +131,7 @@ def make_longer(trials: Trials) -> None:
 def libpcap(finder: Finder, trials: Trials, model: Model, ring: Ring) -> Advice:
     """The ring of tcpdump or of dumpcap, whose time-outs differ."""
     least, is_judged = least_of(finder, trials, model, ring)
-    blocks = max(least.blocks, LEAST_BLOCKS)
+    blocks = max(least.count, LEAST_BLOCKS)
     size = blocks * ring.block_size
     is_tcpdump = ring.timeout == TCPDUMP_TIMEOUT
     line = f"tcpdump -B {size // 1024}" if is_tcpdump else f"dumpcap -B {-(-size // MEBIBYTE)}"
@@ -153,7 +153,7 @@ def suricata(
         frame_size=min(ring.frame_size, DEFAULT_BLOCK),
     )
     least, is_judged = least_of(finder, trials, model, its, keys)
-    blocks = max(least.blocks, LEAST_BLOCKS)
+    blocks = max(least.count, LEAST_BLOCKS)
     lines = [
         f"block-size: {DEFAULT_BLOCK}",
         f"ring-size: {blocks * (DEFAULT_BLOCK // SURICATA_FRAME) - 1}",

@@ -1,5 +1,6 @@
 """How the smallest ring is found: at every whole millisecond of the timer by ringsize, or else by
-the tools' own model, `ringtap replay` judging, or by that program alone at some phases."""
+the tools' own model, `ringtap replay` or `replay2` judging, or by that program alone at some
+phases."""
 from __future__ import annotations
 
 import time
@@ -10,7 +11,17 @@ from .files import Fault
 from .ringsizes import ASKED, Finder
 from .runs import Progress, Report, say_how_long
 from .search import Least, Model, compare, key_of, key_ranges, keys_of, rung
-from .trials import LEAST_BLOCKS, ROLLOVER, Result, Ring, Trials, begun, least_of, lines_of
+from .trials import (
+    LEAST_BLOCKS,
+    ROLLOVER,
+    Result,
+    Ring,
+    Trials,
+    begun,
+    just,
+    least_of,
+    lines_of,
+)
 
 # At which an answer of fewer phases is run again, and those under other keys.
 SURE_PHASES, KEY_PHASES = 250, 8
@@ -71,9 +82,9 @@ class Search:
         least, found = self.finder.find(self.model, self.trials, ring, keys.worst)
         self.finders.add("ringsize" if found.startswith(ASKED) else "model")
         if keys.others:
-            self.key_words.append(keys.words())
+            self.key_words.append(keys.words(ring.kind.unit))
             self.key_needs.append({"members": ring.members, **keys.object()})
-        wanted, blocks = {one.block_nr for one in rings}, max(least.blocks, LEAST_BLOCKS)
+        wanted, blocks = {one.block_nr for one in rings}, ring.blocks_for(least.count)
         if is_open:
             wanted |= set(rung(ring, blocks))
         elif min(wanted) < blocks <= max(wanted):
@@ -97,27 +108,33 @@ class Search:
         return [replace(result, by_keys=one) for result, one in zip(results, ranges)]
 
     def judged(self, ring: Ring, least: Least, found: str, answer: Result | None) -> str:
-        """What the program says at the worst phase: of the answer, and of one block less."""
-        blocks = max(least.blocks, LEAST_BLOCKS)
-        sides = [self.side(ring, least, blocks), self.side(ring, least, least.blocks - 1)]
-        where = f"at phase {least.phase} of {len(self.model.phases(ring))}"
-        said = f"{found} {where}, and there `ringtap replay` judged: {'; '.join(sides)}"
-        if answer is None or answer.ring.block_nr != blocks:
-            return f"the smallest ring that never freezes has {blocks} blocks; {said}"
+        """What the program says at the worst phase: of the answer, and of one block or slot
+        less."""
+        count, kind = max(least.count, LEAST_BLOCKS), ring.kind
+        sides = [self.side(ring, least, count), self.side(ring, least, least.count - 1)]
+        where = "" if ring.is_v2 else f" at phase {least.phase} of {len(self.model.phases(ring))}"
+        place = f"{found}{where}".rstrip(",")
+        said = f"{place}, and there `ringtap {kind.command}` judged: {'; '.join(sides)}"
+        if answer is None or answer.ring.block_nr != ring.blocks_for(count):
+            return f"the smallest ring that {kind.suffices} has {count} {kind.unit}s; {said}"
         return said
 
     def side(self, ring: Ring, least: Least, count: int) -> str:
-        tried = replace(ring, block_nr=count)
-        words = number_words(count, "block")
-        if count < LEAST_BLOCKS or not tried.fits:
-            return f"no setup has {words}, so that side wasn't run"
-        freezes = self.run(tried, least, least.phase).freezes
-        if bool(freezes) != (count < least.blocks):
+        kind, words = ring.kind, number_words(count, ring.kind.unit)
+        # a reader of bytes takes fewer slots a second if these are larger
+        keeps_size = ring.is_v2 and self.model.pace.bytes is not None
+        tried = just(ring, count, keeps_size)
+        if tried is None:
+            size = f" of {ring.unit_size} bytes" * keeps_size
+            return f"no setup has {words}{size}, so that side wasn't run"
+        counted = getattr(self.run(tried, least, least.phase), kind.counted)
+        if bool(counted) != (count < least.count):
             raise Fault(
-                f"{tried.words()}, at phase {least.phase}: the program counts {freezes} freezes,"
-                f" and {least.blocks} blocks were found to be the least that never freeze"
+                f"{tried.words()}, at phase {least.phase}: the program counts {counted}"
+                f" {kind.counted}, and {least.count} {kind.unit}s were found to be the least that"
+                f" {kind.suffice}"
             )
-        return f"{words} {'freeze' if freezes else 'never freeze'}"
+        return f"{words} {kind.fail if counted else kind.suffice}"
 
 
 def every_phase(

@@ -210,7 +210,8 @@ def predicted(args: argparse.Namespace, found: Found, folder: Path, program: Pat
         )
     blocks = found.number("block_nr")
     words = ["setup.txt", "--block-nr", str(blocks), "--poll", "0", "--json"]
-    words += ["--program", str(program)] + ["--replay2"] * found.is_v2
+    words += ["--program", str(program)]
+    words += ["--replay2", "--keys", "0"] * found.is_v2  # one number, so of one key
     for start, length in args.stop:
         words += ["--stall", f"{start}:{length}"]
     for name in ("pps", "mbps", "speed"):

@@ -112,6 +112,7 @@ class PartsAsker:
     program: Path
     room: Room
     pace: Pace
+    ring: Ring
     largest: int = LARGEST_CAPTURE  # bytes of a capture file
 
     def smallest(self, told: Callable[[int], None]) -> Sized:
@@ -131,9 +132,8 @@ class PartsAsker:
 
     def lines(self) -> list[str]:
         """The reader's text, without further files."""
-        ring = ring_of(self.room.setup)
-        lines = [*reader_lines(self.pace, ring), "phases all"]
-        if steps_of(self.pace, ring.block_size):
+        lines = reader_lines(self.pace, self.ring)
+        if steps_of(self.pace, self.ring.unit_size):
             begin = self.pace.begin
             lines.append("from all" if begin is None else f"from {whole(begin, '--from')}")
         return lines
@@ -158,7 +158,7 @@ class PartsAsker:
         """NotAsked where ringsize doesn't know further files: it is tried on empty captures."""
         (self.room.folder / "empty").write_bytes(FILE_HEADER)
         self.write_setup(["empty"] * len(self.room.setup.cpus))
-        answered(self.program, self.room.folder, [*lines, "more 0 empty"])
+        answered(self.program, self.room, [*lines, "more 0 empty"])
 
     def write_setup(self, captures: list[str]) -> None:
         self.room.write_setup("sized", {"out": "nowhere", "dump": None}, captures)
@@ -171,7 +171,7 @@ class PartsAsker:
                 os.mkfifo(pipe)
             filler.start()
         try:
-            found = answered(self.program, self.room.folder, lines)
+            found = answered(self.program, self.room, lines)
         finally:
             for filler in fillers:
                 filler.has_ended.set()
@@ -181,8 +181,8 @@ class PartsAsker:
         return found
 
 
-def ring_of(setup: Setup) -> Ring:
+def ring_of(setup: Setup, is_v2: bool) -> Ring:
     """The ring that a setup has."""
     mode = setup.word("mode", "cpu") + ROLLOVER * ("rollover" in setup.flags)
     sizes = [setup.number(word) for word in ("block_size", "block_nr", "frame_size")]
-    return Ring(mode, setup.members(), setup.number("tov", 0), *sizes)
+    return Ring(mode, setup.members(), setup.number("tov", 0), *sizes, is_v2)

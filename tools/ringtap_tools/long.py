@@ -7,8 +7,8 @@ second time, with two rings more before it, and has to give the same. The reader
 those of `schedule.py`.
 
 Groups that roll over, and reassembly, are refused: their members, and their pieces, don't stand
-alone. With --smallest ringsize is asked for the smallest ring that never freezes; a capture of more
-than 32 MiB is given to it in parts.
+alone. With --smallest ringsize is asked for the smallest ring that never freezes, or of slots loses
+nothing; a capture of more than 32 MiB is given to it in parts.
 """
 from __future__ import annotations
 
@@ -17,7 +17,7 @@ import sys
 import time
 from collections import deque
 from concurrent.futures import Future
-from dataclasses import asdict, dataclass, field
+from dataclasses import dataclass, field
 from itertools import compress
 from pathlib import Path
 
@@ -27,12 +27,13 @@ from .cut_members import Cut, Limits, Member, Shape
 from .cut_pieces import Piece, less
 from .cut_rings import Counts
 from .deals import Batch, Clock, CpuStream, Dealer, PieceRoom, fed
-from .file_parts import PartsAsker
+from .file_parts import PartsAsker, ring_of
 from .files import Fault, Setup, read_setup
 from .model import Timer, need_of, room_of
 from .ringsizes import NotAsked, Sized, ringsize_of
 from .runs import Report, add_program, program_of
 from .schedule import DEFAULT_TIMEOUT, Pace, add_pace, pace_of
+from .trials import Ring, tried_words
 from .words import ToolParser, add_json, print_json
 
 MEBIBYTE = 1_048_576
@@ -325,8 +326,8 @@ def parser_of() -> ToolParser:
     parser.add_argument(
         "--smallest",
         action="store_true",
-        help="the smallest ring that never freezes too, by ringsize, which looks at every whole"
-        " millisecond of the timer and of the reader's beginning",
+        help="the smallest ring that never freezes too, or of slots loses nothing, by ringsize,"
+        " which looks at every whole millisecond of the timer and of the reader's beginning",
     )
     add_pace(parser)
     add_json(parser)
@@ -334,15 +335,13 @@ def parser_of() -> ToolParser:
     return parser
 
 
-def smallest_of(program: Path, room: PieceRoom, pace: Pace, is_v2: bool) -> Sized | str:
+def smallest_of(program: Path, room: PieceRoom, pace: Pace, ring: Ring) -> Sized | str:
     """The smallest ring by ringsize, or why it has no answer."""
     try:
         ringsize = ringsize_of(program)
         if not ringsize:
             raise NotAsked("ringsize isn't there")
-        if is_v2:
-            raise NotAsked("ringsize is asked for rings of blocks alone")
-        return PartsAsker(ringsize, room, pace).smallest(PartsProgress().step)
+        return PartsAsker(ringsize, room, pace, ring).smallest(PartsProgress().step)
     except NotAsked as reason:
         return str(reason)
 
@@ -372,19 +371,19 @@ def refuse_none(run: LongRun) -> None:
         raise NoAnswer(f"the filter refuses each of {arrivals:,} arrivals")
 
 
-def smallest_words(found: Sized | str, setup: Setup, pace: Pace) -> str:
+def smallest_words(found: Sized | str, ring: Ring, pace: Pace) -> str:
     if isinstance(found, str):
         return f"no smallest ring: {found}"
-    tried, begin = " and of the reader's beginning", ""
-    if not steps_of(pace, setup.number("block_size")):
-        tried = ""
-    else:
-        begin = f", for a reader that begins {found.begin} ms after the first frame"
-        tried = tried if pace.begin is None else ""
+    has_steps = steps_of(pace, ring.unit_size) is not None
+    tried = tried_words(not ring.is_v2, has_steps and pace.begin is None)
+    places = [] if ring.is_v2 else [f" at phase {found.phase}"]
+    if has_steps:
+        places.append(f" for a reader that begins {found.begin} ms after the first frame")
+    needed = f"; so many are needed{','.join(places)}" if places else ""
+    kind = ring.kind
     return (
-        f"the smallest ring that never freezes, at every whole millisecond of the timer{tried}:"
-        f" {found.blocks} blocks of {setup.number('block_size')} bytes; so many are needed at phase"
-        f" {found.phase}{begin} (by `ringsize`)"
+        f"the smallest ring that {kind.suffices}{tried}: {found.count} {kind.unit}s of"
+        f" {ring.unit_size} bytes{needed} (by `ringsize`)"
     )
 
 
@@ -392,6 +391,7 @@ def main(words: list[str]) -> int:
     args = parser_of().parse_args(words)
     setup, pace, program = read_setup(args.setup), pace_of(args), program_of(args.program)
     refuse(setup)
+    ring = ring_of(setup, args.replay2)
     smallest: Sized | str | None = None
     status = 0
     with PieceRoom(setup, program) as room:
@@ -401,21 +401,24 @@ def main(words: list[str]) -> int:
         if args.smallest:
             try:
                 refuse_none(run)
-                smallest = smallest_of(program, room, pace, args.replay2)
+                smallest = smallest_of(program, room, pace, ring)
             except NoAnswer as fault:
                 smallest, status = str(fault), NO_ANSWER
     if args.json:
-        print_json(object_of(run) | smallest_object(smallest))
+        print_json(object_of(run) | smallest_object(smallest, ring))
         if isinstance(smallest, str):
             print(f"no smallest ring: {smallest}", file=sys.stderr)
     else:
         print("\n".join([*lines_of(run), "", cuts_words(run)]))
         if smallest:
-            print(smallest_words(smallest, setup, pace))
+            print(smallest_words(smallest, ring, pace))
     return status
 
 
-def smallest_object(found: Sized | str | None) -> dict[str, object]:
+def smallest_object(found: Sized | str | None, ring: Ring) -> dict[str, object]:
     if found is None:
         return {}
-    return {"smallest": None if isinstance(found, str) else asdict(found)}
+    if isinstance(found, str):
+        return {"smallest": None}
+    numbers = {f"{ring.kind.unit}s": found.count, "phase": found.phase, "begin": found.begin}
+    return {"smallest": numbers}

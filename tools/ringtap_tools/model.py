@@ -232,6 +232,18 @@ def course_of(packets: Packets, blocks: int, timer: Timer, reader: Reader, end: 
             is_open = True
 
 
+def least_slots(given: Given, reader: Reader) -> int:
+    """The fewest slots with which the ring loses nothing."""
+    reader.begin()
+    least, back = 1, deque()
+    for time in given.times:
+        while back and back[0] < time:
+            back.popleft()
+        back.append(reader.taken(time))
+        least = max(least, len(back))
+    return least
+
+
 def course_of_slots(given: Given, slots: int, reader: Reader) -> Course:
     """A ring of so many slots: each packet is one, which is handed over at once."""
     reader.begin()

@@ -6,9 +6,9 @@ number of blocks, time-out, number of members and mode that is given with each o
 isn't known when a program starts its timer, so every whole millisecond of it is looked at, by the
 program ringsize where it is there, which looks at every beginning of the reader too, and else by a
 model of the tool's own; `ringtap replay` then judges where the ring has to be so large: there it
-never freezes, and one block less freezes. With --phases, with rollover and for slots `ringtap
-replay` itself is run at so many phases, the number of blocks being doubled and then halved to the
-smallest that loses nothing.
+never freezes, and one block less freezes. With --replay2 it is the same for slots, which have no
+timer, and for losses. With --phases and with rollover `ringtap replay` itself is run at so many
+phases, the number of blocks being doubled and then halved to the smallest that loses nothing.
 
 The feeds have the captures' own times, or a rate. The memory is that of the blocks of all
 members together. The status is 0 where a ring suffices, 3 where none does, and 4 where the
@@ -44,8 +44,10 @@ from .size_pictures import drops_picture, packets_picture
 from .size_words import Answer, member_rows, object_of, print_words, table_text
 from .svg_plot import check_picture, save_picture
 from .trials import (
+    LARGEST_BLOCK,
     LEAST_BLOCKS,
     MOST_BLOCKS,
+    PAGE,
     RESERVED,
     ROLLOVER,
     Result,
@@ -57,8 +59,6 @@ from .trials import (
 )
 from .words import ToolParser, add_json, print_json
 
-PAGE = 4096
-LARGEST_BLOCK = 1_048_576
 MOST_MEMBERS, MOST_CPUS, MOST_PHASES = 8, 8, 1000
 MOST_TIMEOUT = 60_000  # milliseconds
 NONE_SUFFICES = 3  # the status
@@ -447,10 +447,10 @@ def take_filter(setup: Setup, instructions: str, folder: str) -> None:
 
 
 def looks_at_all(args: argparse.Namespace, grid: list[Ring], model: Model) -> bool:
-    """Whether every whole millisecond is looked at: not for slots, nor with rollover."""
-    if args.phases is not None or args.replay2 or any(map(rolls_over, grid)):
+    """Whether every whole millisecond is looked at: not with rollover."""
+    if args.phases is not None or any(map(rolls_over, grid)):
         return False
-    return model.timer(grid[0], 0).every > 0
+    return args.replay2 or model.timer(grid[0], 0).every > 0
 
 
 def found(

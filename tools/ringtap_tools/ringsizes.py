@@ -1,5 +1,6 @@
-"""Asks ringsize, a program whose answer is proved, for the smallest ring that never freezes at any
-phase of the timer and any beginning of the reader, each to the whole millisecond.
+"""Asks ringsize, a program whose answer is proved, for the smallest ring that never freezes, or of
+slots loses nothing, at any phase of the timer and any beginning of the reader, each to the whole
+millisecond.
 
 What it is asked is a setup and a reader's text (docs/reference.md, section 13). A reader that has
 no such text isn't asked for, and the reason is said.
@@ -20,11 +21,15 @@ from .files import Fault
 from .runs import Room, run_program, say_how_long, status_words
 from .schedule import DEFAULT_TIMEOUT
 from .search import Least, Model
-from .trials import Ring, Trials, changes_of
+from .trials import BLOCKS, SLOTS, Ring, Trials, changes_of
 
-GROUP_LINE = re.compile(r"group (?:blocks|slots) (\d+) phase (\d+) from (\d+)(?: beyond)?")
+GROUP_LINE = r"group {}s (\d+) phase (\d+) from (\d+)(?: beyond)?"
 NO_ANSWER = re.compile(r"(?:setup|reader): .* has no answer yet")
 ASKED = "`ringsize` found it"  # so begin the words where it was asked
+# lines of the reader's text
+ALL_PHASES, ONE_PHASE, SLOTS_LINE = "phases all", "phase 0", "slots"
+REFUSED = 2  # the status of a setup that is refused
+FEW_BEGINS = 50  # by which it is estimated how long all take
 
 
 class NotAsked(Exception):
@@ -33,10 +38,10 @@ class NotAsked(Exception):
 
 @dataclass(frozen=True)
 class Sized:
-    """The smallest ring of all members, and a phase and a beginning at which it has to be so large,
-    both in milliseconds."""
+    """The smallest ring of all members, in blocks or slots, and a phase and a beginning at which it
+    has to be so large, both in milliseconds."""
 
-    blocks: int
+    count: int
     phase: int
     begin: int
 
@@ -69,15 +74,17 @@ def pace_line(pace: Pace) -> str:
 
 
 def reader_lines(pace: Pace, ring: Ring) -> list[str]:
-    """The reader's text without phases and beginnings."""
+    """The reader's text without beginnings. The pace is its first line, and its last one says that
+    each phase is tried, or that the ring has slots and so no timer."""
     if pace.speed != 1 or pace.packets or pace.bits:
         raise NotAsked("ringsize takes the captures' own times alone")
-    if pace.tick is not None and pace.tick != (ring.timeout or DEFAULT_TIMEOUT):
+    ticks = None if ring.is_v2 else pace.tick
+    if ticks is not None and ticks != (ring.timeout or DEFAULT_TIMEOUT):
         raise NotAsked("ringsize has a tick every time-out")
     lines = [pace_line(pace)]
     for start, length in pace.stalls:
         lines.append(f"stall {whole(start, '--stall')} {whole(length, '--stall')}")
-    return lines
+    return [*lines, SLOTS_LINE if ring.is_v2 else ALL_PHASES]
 
 
 class Asker:
@@ -94,40 +101,57 @@ class Asker:
         lines = reader_lines(pace, ring)
         changes = changes_of(ring, self.has_flag, "nowhere") | ({"key": key} if key else {})
         self.room.write_setup("sized", changes, self.captures)
-        steps = steps_of(pace, ring.block_size)
+        steps = steps_of(pace, ring.unit_size)
         if steps is None:
-            return self.answer([*lines, "phases all"])
+            return self.answer(lines)
         if pace.begin is not None:
-            return self.answer([*lines, "phases all", f"from {whole(pace.begin, '--from')}"])
+            return self.answer([*lines, f"from {whole(pace.begin, '--from')}"])
         seconds = self.estimate(lines, ring, -(-steps.period // MILLISECOND))
         with Waiting("ringsize", seconds):
-            return self.answer([*lines, "phases all", "from all"])
+            return self.answer([*lines, "from all"])
 
     def estimate(self, lines: list[str], ring: Ring, begins: int) -> float:
-        """About how many seconds all take, by one beginning at one phase and at all."""
-        phases = ring.timeout or DEFAULT_TIMEOUT
+        """About how many seconds all take, by one try and by some."""
+        phases = 1 if ring.is_v2 else ring.timeout or DEFAULT_TIMEOUT
         if phases * begins < 1000:
             return 0.0
+        one, some, tries = few_tries(lines, ring)
         moments = [time.monotonic()]
-        for phase in ("phase 0", "phases all"):
-            self.answer([*lines, phase, "from 0"])
+        for text in (one, some):
+            self.answer(text)
             moments.append(time.monotonic())
-        each = max(0.0, moments[2] - 2 * moments[1] + moments[0]) / phases
+        each = max(0.0, moments[2] - 2 * moments[1] + moments[0]) / tries
         seconds = moments[1] - moments[0] + each * phases * begins
-        say_how_long(f"ringsize: {phases} phases and {begins} beginnings", seconds)
+        words = f"{phases} phases and {begins} beginnings" if phases > 1 else f"{begins} beginnings"
+        say_how_long(f"ringsize: {words}", seconds)
         return seconds
 
     def answer(self, lines: list[str]) -> Sized:
-        return answered(self.program, self.room.folder, lines)
+        return answered(self.program, self.room, lines)
 
 
-def answered(program: Path, folder: Path, lines: list[str]) -> Sized:
-    """What ringsize answers of `sized`, a setup in a folder, and of a reader's text."""
-    (folder / "reader").write_text("\n".join([*lines, ""]))
-    done = run_program(program, ["sized", "reader"], folder, dict(os.environ))
+def few_tries(lines: list[str], ring: Ring) -> tuple[list[str], list[str], int]:
+    """A reader's text with one try, one with some, and how many these are: the phases of blocks,
+    and of slots a few beginnings of another reader."""
+    if ring.is_v2:
+        few = [f"pause {FEW_BEGINS}", *lines[1:]]
+        return [*few, "from 0"], [*few, "from all"], FEW_BEGINS
+    text = [*lines, "from 0"]
+    one = [ONE_PHASE if line == ALL_PHASES else line for line in text]
+    return one, text, ring.timeout or DEFAULT_TIMEOUT
+
+
+def answered(program: Path, room: Room, lines: list[str]) -> Sized:
+    """What ringsize answers of `sized`, a setup in a room, and of a reader's text."""
+    (room.folder / "reader").write_text("\n".join([*lines, ""]))
+    done = run_program(program, ["sized", "reader"], room.folder, dict(os.environ))
+    kind = SLOTS if SLOTS_LINE in lines else BLOCKS
+    if done.returncode == REFUSED:
+        raise Fault(room.refused(done, kind.command, "sized", "reader"))
     if done.returncode == 3 and (refused := NO_ANSWER.search(done.stdout)):
         raise NotAsked(f"ringsize says: {refused[0]}")
-    found = [GROUP_LINE.fullmatch(line) for line in done.stdout.splitlines()]
+    group = GROUP_LINE.format(kind.unit)
+    found = [re.fullmatch(group, line) for line in done.stdout.splitlines()]
     told = [one for one in found if one]
     if done.returncode or len(told) != 1:
         said = f"{status_words(done.returncode)} (status {done.returncode})"
@@ -150,9 +174,9 @@ class Finder:
             one = self.asker.least(ring, pace, mine.key, trials.captures is not None)
         except NotAsked as reason:
             return mine, f"{reason}, so the tool's own model found it"
-        if steps_of(pace, ring.block_size) is None or pace.begin is not None:
-            return Least(one.blocks, one.phase, mine.key), ASKED
-        found = Least(one.blocks, one.phase, mine.key, one.begin)
+        if steps_of(pace, ring.unit_size) is None or pace.begin is not None:
+            return Least(one.count, one.phase, mine.key), ASKED
+        found = Least(one.count, one.phase, mine.key, one.begin)
         whose = f"for a reader that begins {one.begin} ms after the first frame"
         return found, f"{ASKED} {whose},"
 

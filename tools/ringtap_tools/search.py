@@ -17,12 +17,14 @@ from .files import Fault
 from .given import Offers, offers_of, rehashed
 from .model import (
     Course,
+    Given,
     Packets,
     Reader,
     Timer,
     course_of,
     course_of_slots,
     least_blocks,
+    least_slots,
     need_of,
     room_of,
 )
@@ -43,10 +45,11 @@ def key_of(number: int) -> str:
 
 @dataclass(frozen=True)
 class Least:
-    """The fewest blocks that never freeze, and a phase and a key at which it takes as many; and the
-    reader's beginning, in milliseconds, where it isn't that of the pace."""
+    """The fewest blocks that never freeze, or slots that lose nothing, and a phase and a key at
+    which it takes as many; and the reader's beginning, in milliseconds, where it isn't that of the
+    pace."""
 
-    blocks: int
+    count: int
     phase: int
     key: str | None = OWN_KEY
     begin: int | None = None
@@ -97,13 +100,17 @@ class Model:
             self.offers[key] = rehashed(own, self.room, self.captures, self.fed, key or "")
         return self.offers[key]
 
+    def dealt(self, ring: Ring, key: str | None = OWN_KEY) -> list[Given]:
+        """What each member of a ring is given."""
+        return self.offers_by(key).dealt(ring.mode, ring.members, self.queues)
+
     def packets_of(self, ring: Ring, key: str | None = OWN_KEY) -> list[Packets]:
-        """What each member of a ring is given; of the last ring alone it is held."""
+        """The same over its blocks; of the last ring alone it is held."""
         name = ring.mode, ring.members, ring.block_size, key
         if name not in self.packets:
-            dealt = self.offers_by(key).dealt(ring.mode, ring.members, self.queues)
             room = room_of(ring.block_size, self.private)
-            self.packets = {name: [Packets(given, room, self.reserved) for given in dealt]}
+            made = [Packets(given, room, self.reserved) for given in self.dealt(ring, key)]
+            self.packets = {name: made}
         return self.packets[name]
 
     def timer(self, ring: Ring, phase: int | Fraction) -> Timer:
@@ -111,15 +118,17 @@ class Model:
         return Timer(timeout if self.pace.tick is None else self.pace.tick, timeout, phase)
 
     def phases(self, ring: Ring) -> range:
-        """Every whole millisecond below the distance of two ticks."""
-        return range(max(1, self.timer(ring, 0).every))
+        """Every whole millisecond below the distance of two ticks; slots have no timer."""
+        return range(1 if ring.is_v2 else max(1, self.timer(ring, 0).every))
 
     def reader(self, ring: Ring) -> Reader:
-        return Reader(self.pace, ring.frame_size if ring.is_v2 else ring.block_size)
+        return Reader(self.pace, ring.unit_size)
 
     def least_at(self, ring: Ring, phase: int, key: str | None = OWN_KEY) -> int:
-        """The fewest blocks that never freeze at a phase; of all members as many as one needs."""
+        """The smallest ring at a phase; of all members as large as one needs."""
         timer, reader, end = self.timer(ring, phase), self.reader(ring), self.fed.end
+        if ring.is_v2:
+            return max(least_slots(one, reader) for one in self.dealt(ring, key))
         return max(least_blocks(one, timer, reader, end) for one in self.packets_of(ring, key))
 
     def courses(
@@ -131,8 +140,10 @@ class Model:
         if ring.mode != mode or mode == "rollover":
             return self.rolled_over(ring, mode, timer, key, is_kernel)
         if ring.is_v2:
-            dealt = self.offers_by(key).dealt(mode, ring.members, self.queues)
-            return [course_of_slots(given, ring.slots, self.reader(ring)) for given in dealt]
+            return [
+                course_of_slots(given, ring.slots, self.reader(ring))
+                for given in self.dealt(ring, key)
+            ]
         reader = self.reader(ring)
         return [
             course_of(one, ring.block_nr, timer, reader, end) for one in self.packets_of(ring, key)
@@ -168,15 +179,15 @@ class Model:
     # ---- over all phases
 
     def worst_least(self, ring: Ring, key: str | None = OWN_KEY, most: int | None = None) -> Least:
-        """The fewest blocks that never freeze at any phase, or at so many of them."""
+        """The smallest ring at any phase, or at so many of them."""
         phases = self.phases(ring)
         tried = phases if most is None else few_of(phases, most)
         progress = self.progress_of(ring, len(tried), f"phases of {ring.line_words()}", key)
         best = Least(0, 0, key)
         for phase in tried:
-            blocks = self.least_at(ring, phase, key)
-            if blocks > best.blocks:
-                best = Least(blocks, phase, key)
+            count = self.least_at(ring, phase, key)
+            if count > best.count:
+                best = Least(count, phase, key)
             progress.step()
         return best
 
@@ -191,7 +202,10 @@ class Model:
         return found
 
     def progress_of(self, ring: Ring, count: int, what: str, key: str | None) -> Progress:
-        """A bar; where the first phase shows that it takes long, it is said how long."""
+        """A bar; where the first of several phases shows that it takes long, it is said how
+        long."""
+        if count == 1:
+            return Progress(count, what, is_shown=False)
         self.packets_of(ring, key)
         begin = time.monotonic()
         self.least_at(ring, 0, key)
@@ -214,22 +228,22 @@ class Keys:
 
     @property
     def worst(self) -> Least:
-        return max((self.own, *self.others), key=lambda least: least.blocks)
+        return max((self.own, *self.others), key=lambda least: least.count)
 
-    def words(self) -> str:
+    def words(self, unit: str) -> str:
         return (
-            f"mode hash: the setup's key needs {self.own.blocks} blocks, {len(self.others)} further"
+            f"mode hash: the setup's key needs {self.own.count} {unit}s, {len(self.others)} further"
             f" keys {span_words(self.span())}; a kernel's key is a secret of its boot, so the worst"
             " counts"
         )
 
     def span(self) -> tuple[int, int]:
-        """The fewest and the most blocks that one of the others needs."""
-        needs = [least.blocks for least in self.others]
+        """The fewest and the most blocks, or slots, that one of the others needs."""
+        needs = [least.count for least in self.others]
         return min(needs), max(needs)
 
     def object(self) -> dict[str, object]:
-        return {"own": self.own.blocks, "others": list(self.span()), "count": len(self.others)}
+        return {"own": self.own.count, "others": list(self.span()), "count": len(self.others)}
 
 
 def keys_of(model: Model, ring: Ring, count: int) -> Keys:
@@ -238,7 +252,7 @@ def keys_of(model: Model, ring: Ring, count: int) -> Keys:
     own = model.worst_least(ring)
     others = [model.worst_least(ring, key_of(number), FEW_PHASES) for number in range(1, count + 1)]
     if others:
-        worst = max(range(count), key=lambda at: others[at].blocks)
+        worst = max(range(count), key=lambda at: others[at].count)
         others[worst] = model.worst_least(ring, others[worst].key)
     return Keys(own, tuple(others))
 

@@ -15,7 +15,10 @@ from .runs import table
 from .schedule import Fed
 from .svg_plot import kib
 from .trials import (
+    BLOCKS,
     LEAST_BLOCKS,
+    SLOTS,
+    Kind,
     Result,
     Ring,
     Trials,
@@ -23,6 +26,7 @@ from .trials import (
     evenness,
     lines_of,
     members_of,
+    tried_words,
 )
 
 HEADS = [
@@ -63,16 +67,28 @@ def row_of(result: Result) -> list[object]:
 def phases_words(result: Result, first: Fraction | None) -> str:
     """Which phases of the timer were tried, and which beginnings of the reader, whose first step
     comes so many milliseconds after the first frame where not all were."""
-    if result.begin is not None:
-        return ", at every whole millisecond of the timer and of the reader's beginning"
+    is_whole, has_begin = bool(result.drops_by_phase), result.begin is not None
+    tried = tried_words(is_whole and not result.ring.is_v2, has_begin)
+    if has_begin:
+        return tried
     count = len(result.phases)
-    phases = f" at each of {count} phases of the timer" if count > 1 else ""
-    if result.drops_by_phase:
-        phases = ", at every whole millisecond of the timer"
+    if not is_whole and count > 1:
+        tried = f" at each of {count} phases of the timer"
     if first is None:
-        return phases
+        return tried
     step = f"{float(first):g} ms after the first frame"
-    return f"{phases}, for a reader whose first step comes {step}"
+    return f"{tried}, for a reader whose first step comes {step}"
+
+
+def looks_at_freezes(result: Result) -> bool:
+    """Whether it was looked at every phase of a timer for freezes, and not for losses alone."""
+    return bool(result.drops_by_phase) and not result.ring.is_v2
+
+
+def kind_of(result: Result) -> Kind:
+    """The kind of ring whose words are right: of a ring of blocks that was looked at for losses
+    alone they are those of slots."""
+    return BLOCKS if looks_at_freezes(result) else SLOTS
 
 
 def lost_words(result: Result) -> str:
@@ -83,7 +99,7 @@ def lost_words(result: Result) -> str:
         else f"{result.drops:,}"
     )
     packets = f"{lost} of {result.worst.kept + result.drops:,} packets"
-    if result.drops_by_phase:
+    if looks_at_freezes(result):
         return f"{result.ring.block_nr} blocks freeze, and lose {packets}, by the phase"
     return f"with {result.ring.block_nr} blocks {packets} are lost"
 
@@ -92,7 +108,7 @@ def verdict_of(results: list[Result], least: Result | None, first: Fraction | No
     """The smallest ring that suffices, in words, and the largest of its line that doesn't."""
     if least is None:
         best = min(results, key=lambda result: (result.drops, result.ring.memory))
-        does = "freezes" if best.drops_by_phase else "loses packets"
+        does = kind_of(best).fails
         return [
             f"every ring that was tried {does}: no ring suffices",
             (
@@ -107,7 +123,7 @@ def verdict_of(results: list[Result], least: Result | None, first: Fraction | No
         if smaller or least.ring.block_nr == LEAST_BLOCKS
         else "smallest ring of those tried"
     )
-    does = "never freezes" if least.drops_by_phase else "loses nothing"
+    does = kind_of(least).suffices
     larger = " (any larger one is as good)" if least.drops_by_phase else ""
     said = [
         f"the {what} that {does}{phases_words(least, first)}: {least.ring.words()};"
@@ -179,8 +195,7 @@ class Answer:
 
     def first_step(self) -> Fraction | None:
         """Of the reader, in milliseconds after the first frame."""
-        ring = self.results[0].ring
-        return first_step(self.pace, ring.frame_size if ring.is_v2 else ring.block_size)
+        return first_step(self.pace, self.results[0].ring.unit_size)
 
 
 def print_words(first: str, answer: Answer) -> None:
@@ -240,7 +255,7 @@ def object_of(answer: Answer) -> dict[str, object]:
         "about": about_object(answer.fed.about, answer.filtered),
         "rings": rings,
         "least": dict(zip(HEADS, row_of(least))) if least else None,
-        "is_every_millisecond": bool(least and least.drops_by_phase),
+        "is_every_millisecond": bool(least and looks_at_freezes(least)),
         "is_every_beginning": bool(least and least.begin is not None),
         "found_by": answer.finders,
         "keys": answer.key_needs,

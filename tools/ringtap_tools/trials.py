@@ -18,10 +18,32 @@ from .outputs import write_text
 from .runs import MemberReport, Progress, Report, Room, say_how_long
 from .schedule import DEFAULT_TIMEOUT, Fed, Reads, schedule_of
 
+PAGE, LARGEST_BLOCK = 4096, 1_048_576  # bytes
 LARGEST_RING, MOST_BLOCKS, MOST_SLOTS = 67_108_864, 256, 65_536
 LEAST_BLOCKS = 2
+LEAST_FRAME, FRAME_STEP = 80, 16  # bytes: a setup has no smaller slots, and multiples alone
 ROLLOVER = "+rollover"  # after a mode, where the flag is set
 RESERVED = 4  # bytes that libpcap has besides before each packet's data
+
+
+@dataclass(frozen=True)
+class Kind:
+    """What rings consist of: the command that replays them, and words for what is counted there
+    of rings that aren't large enough."""
+
+    unit: str
+    command: str
+    counted: str  # the number of a run's report
+    suffices: str  # of one ring
+    suffice: str  # of several blocks or slots
+    fails: str
+    fail: str
+
+
+BLOCKS = Kind("block", "replay", "freezes", "never freezes", "never freeze", "freezes", "freeze")
+SLOTS = Kind(
+    "slot", "replay2", "drops", "loses nothing", "lose nothing", "loses packets", "lose packets"
+)
 
 
 @dataclass(frozen=True)
@@ -37,6 +59,15 @@ class Ring:
     is_v2: bool = False
 
     @property
+    def kind(self) -> Kind:
+        return SLOTS if self.is_v2 else BLOCKS
+
+    @property
+    def unit_size(self) -> int:
+        """The bytes of a block, or of a slot."""
+        return self.frame_size if self.is_v2 else self.block_size
+
+    @property
     def memory(self) -> int:
         return self.block_size * self.block_nr * self.members
 
@@ -49,6 +80,11 @@ class Ring:
         """Whether ringtap has such a ring."""
         is_within = self.block_nr <= MOST_BLOCKS and self.block_size * self.block_nr <= LARGEST_RING
         return is_within and not (self.is_v2 and self.slots > MOST_SLOTS)
+
+    def blocks_for(self, count: int) -> int:
+        """How many blocks have so many blocks, or slots: two at least."""
+        each = self.block_size // self.frame_size if self.is_v2 else 1
+        return max(LEAST_BLOCKS, -(-count // each))
 
     def words(self) -> str:
         members = "" if self.members == 1 else f", {self.members} members by {self.mode}"
@@ -63,18 +99,38 @@ class Ring:
         )
 
     def line_words(self) -> str:
-        """What a ring is but for its number of blocks."""
+        """What a ring is but for its number of blocks, or slots."""
         members = "" if self.members == 1 else f", {self.members} members by {self.mode}"
-        return (
-            f"blocks of {self.block_size} bytes{members}, time-out"
-            f" {self.timeout or DEFAULT_TIMEOUT} ms"
-        )
+        timeout = "" if self.is_v2 else f", time-out {self.timeout or DEFAULT_TIMEOUT} ms"
+        return f"{self.kind.unit}s of {self.unit_size} bytes{members}{timeout}"
 
     def shape(self) -> Shape:
         """What a schedule has to know; one schedule does for every number of blocks."""
         if self.is_v2:
             return Shape(self.members, self.frame_size, MOST_SLOTS, None)
         return Shape(self.members, self.block_size, MOST_BLOCKS, self.timeout or DEFAULT_TIMEOUT)
+
+
+def just(ring: Ring, count: int, keeps_size: bool) -> Ring | None:
+    """The ring with just so many blocks, or slots; None where no setup has it. Slots may have
+    another size, on which no loss depends, unless that is to be kept."""
+    if not ring.is_v2:
+        one = replace(ring, block_nr=count)
+        return one if count >= LEAST_BLOCKS and one.fits else None
+    numbers = (blocks for blocks in range(LEAST_BLOCKS, MOST_BLOCKS + 1) if count % blocks == 0)
+    found = (slots_in(ring, blocks, count // blocks, keeps_size) for blocks in numbers)
+    return next((one for one in found if one), None)
+
+
+def slots_in(ring: Ring, blocks: int, each: int, keeps_size: bool) -> Ring | None:
+    """The ring with so many blocks, each with so many slots; None where no setup has it."""
+    for size in range(PAGE, LARGEST_BLOCK + 1, PAGE) if each else ():
+        frame_size = ring.frame_size if keeps_size else size // each // FRAME_STEP * FRAME_STEP
+        if LEAST_FRAME <= frame_size and size // frame_size == each:
+            one = replace(ring, block_size=size, block_nr=blocks, frame_size=frame_size)
+            if one.fits:
+                return one
+    return None
 
 
 @dataclass(frozen=True)
@@ -92,6 +148,12 @@ class KeyRange:
             f" {span_words(self.all)} under it and {count} further ones, at {self.phases} phases of"
             " the timer"
         )
+
+
+def tried_words(has_timer: bool, has_beginnings: bool) -> str:
+    """Of what every whole millisecond was tried: of the timer, of the reader's beginning."""
+    tried = ["of the timer"] * has_timer + ["of the reader's beginning"] * has_beginnings
+    return f", at every whole millisecond {' and '.join(tried)}" if tried else ""
 
 
 def span_words(span: tuple[int, int]) -> str:
@@ -213,7 +275,7 @@ class Trials:
         schedule = self.schedule(ring, phase, key, begin)
         changes = changes_of(ring, self.has_flag, prefix) | ({"key": key} if key else {})
         self.room.write_setup(setup, changes, self.captures)
-        report = self.room.replay(setup, schedule, "replay2" if ring.is_v2 else "replay")
+        report = self.room.replay(setup, schedule, ring.kind.command)
         (self.room.folder / setup).unlink()
         return report
 
