@@ -94,7 +94,7 @@ def test_slots_by_hand(times: list[int], reader: str, ring: str, least: str, mos
     lines = SizeCase(SLOTS, f"{reader}\nslots", [capture]).sizing().lines().splitlines()
     assert lines[1:] == [
         f"member 0 slots {ring}", f"group slots {ring}",
-        f"member 0 drops least {least} most {most}"
+        f"member 0 drops least {least} most {most}", f"total drops least {least} most {most}"
     ]
 
 
