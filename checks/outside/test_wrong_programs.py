@@ -25,7 +25,7 @@ BY = {
     ),
 }
 # The same of ringsize.
-SIZES = "second/test_sizes.py::test_answers[2]"
+SIZES = "second/test_sizes.py::test_answers[3-blocks]"
 SIZE_BY = {"damage as success": "outside/test_ringsize.py::test_a_capture_that_is_cut"}
 
 
